@@ -1,0 +1,5 @@
+pub mod Decode
+pub mod Encode
+pub mod Frame
+pub mod FrameType
+pub mod RoundTrip

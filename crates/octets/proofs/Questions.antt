@@ -1,0 +1,54 @@
+-- Laws of the first question that fails: a proof of a reader or a writer goes through them.
+-- Assumes nothing.
+use mathlib.Core.Path.{_≡_, refl, sym, ap, _∙_}
+use mathlib.Core.Bool.{Bool, true, false}
+use mathlib.Core.List.{List, [], _∷_}
+use Prim.Native.Nat.{ℕ, zero, suc}
+use native.Mathlib.Omega.{arith}
+use Rattle.octets.specs.Question.{Question, ask, firstNo, answered}
+
+-- a question answered yes leaves those behind it
+pub passed : {x : ℕ} (number : ℕ) {holds : Bool} (questions : List Question)
+    → holds ≡ true → x ≡ firstNo questions → x ≡ firstNo (ask number holds ∷ questions)
+unfolding firstNo
+passed number questions e p = rw e p
+
+-- a question answered no is the first
+pub failed : (number : ℕ) {holds : Bool} (questions : List Question) → holds ≡ false → number ≡ firstNo (ask number holds ∷ questions)
+unfolding firstNo
+failed number questions e = rw e
+
+-- all answers are yes
+abbrev pub AllYes : List Question → Type 0
+AllYes [] = Unit {0}
+AllYes (ask number holds ∷ questions) = (holds ≡ true) × AllYes questions
+
+-- no number is 0
+abbrev pub Numbered : List Question → Type 0
+Numbered [] = Unit {0}
+Numbered (ask zero holds ∷ questions) = ⊥
+Numbered (ask (suc n) holds ∷ questions) = Numbered questions
+
+-- where none fails, all answers are yes
+pub all-yes : (questions : List Question) → Numbered questions → firstNo questions ≡ 0 → AllYes questions
+unfolding firstNo
+all-yes [] numbered none = tt
+all-yes (ask zero holds ∷ questions) numbered none = absurd numbered
+all-yes (ask (suc n) true ∷ questions) numbered none = (refl, all-yes questions numbered none)
+all-yes (ask (suc n) false ∷ questions) numbered none = absurd (omega arith)
+
+-- where all answers are yes, none fails
+pub none-fails : (questions : List Question) → AllYes questions → firstNo questions ≡ 0
+unfolding firstNo
+none-fails [] all = refl
+none-fails (ask number holds ∷ questions) all = rw (all .0) (none-fails questions (all .1))
+
+-- the answer where no question failed, and where one did
+pub answered-value : {A : Type 0} (refused : ℕ → A) (value : A) {q : ℕ} → q ≡ 0 → answered refused q value ≡ value
+unfolding answered
+answered-value refused value e = rw e
+
+pub answered-refused : {A : Type 0} (refused : ℕ → A) (value : A) (q : ℕ) → (q ≡ 0 → ⊥) → answered refused q value ≡ refused q
+unfolding answered
+answered-refused refused value zero some = absurd (some refl)
+answered-refused refused value (suc q) some = refl

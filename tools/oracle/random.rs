@@ -1,0 +1,37 @@
+// Octets that look random and are the same in every run: xorshift on 64 bits, from a fixed seed.
+
+pub struct Random(u64);
+
+impl Random {
+    // The generator at its start.
+    pub fn new() -> Random {
+        Random(0x9E37_79B9_7F4A_7C15)
+    }
+
+    // A number below `n`.
+    pub fn below(&mut self, n: usize) -> usize {
+        self.0 ^= self.0 << 13;
+        self.0 ^= self.0 >> 7;
+        self.0 ^= self.0 << 17;
+        (self.0 >> 32) as usize % n
+    }
+
+    // An octet.
+    pub fn octet(&mut self) -> u8 {
+        self.below(256) as u8
+    }
+
+    // So many octets.
+    pub fn octets(&mut self, count: usize) -> Vec<u8> {
+        (0..count).map(|_| self.octet()).collect()
+    }
+
+    // So many octets that stay short in a list: where they are many, a run between random ones.
+    pub fn long(&mut self, count: usize) -> Vec<u8> {
+        if count <= 32 {
+            return self.octets(count);
+        }
+        let run = vec![self.octet(); count - 32];
+        [self.octets(16), run, self.octets(16)].concat()
+    }
+}
