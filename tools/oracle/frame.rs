@@ -18,7 +18,7 @@ impl Frame {
     // The frame's three tokens.
     fn text(&self) -> String {
         let check = match self.data_check {
-            Some(check) => format!("{check:04X}"),
+            Some(check) => format!("{check:04x}"),
             None => "-".to_string(),
         };
         format!("{} {check} {}", hex(&self.header), hex(&self.data))
@@ -33,7 +33,7 @@ pub fn reading(rule: Rule, octets: &[u8]) -> String {
         assert_eq!(rust_read(octets), expected, "reading {}", hex(octets));
     }
     match answer {
-        Err(question) => format!("E {} {question}", class(question)),
+        Err(question) => format!("E{} {question:02x} -", class(question)),
         Ok(frame) => format!("F {}", frame.text()),
     }
 }
@@ -91,7 +91,12 @@ fn rust_read(octets: &[u8]) -> Result<Frame, char> {
     })
 }
 
-// The answer to writing into so many octets of output. Panics where the Rust has another.
+// What stands in an output before the call, and how many octets behind it are looked at too.
+const BEFORE: u8 = 0xA5;
+const BEHIND: usize = 16;
+
+// The answer to writing into so many octets of output: the count or the refusal, then the output and
+// some octets behind it. Panics where the Rust has another.
 pub fn writing(rule: Rule, three: [u8; 3], data: &[u8], output: usize) -> String {
     let answer = match data.len() {
         0..=501 => Ok(written(rule, three, data)),
@@ -101,11 +106,16 @@ pub fn writing(rule: Rule, three: [u8; 3], data: &[u8], output: usize) -> String
         let expected = answer.clone().map_err(class);
         assert_eq!(rust_write(three, data), expected, "writing {}", hex(data));
     }
-    match answer {
-        Err(question) => format!("E {} {question}", class(question)),
-        Ok(octets) if octets.len() > output => "N 8".to_string(),
-        Ok(octets) => format!("F {}", hex(&octets)),
-    }
+    let mut after = vec![BEFORE; output + BEHIND];
+    let told = match answer {
+        Err(question) => format!("E{} {question:02x}", class(question)),
+        Ok(octets) if octets.len() > output => "EN 08".to_string(),
+        Ok(octets) => {
+            after[..octets.len()].copy_from_slice(&octets);
+            format!("F {:04x}", octets.len())
+        }
+    };
+    format!("{told} {}", hex(&after))
 }
 
 // A frame with right checks, of any type and up to 65,535 data octets.

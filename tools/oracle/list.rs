@@ -1,27 +1,25 @@
-// A list's text: its lines, and how octets stand in them.
+// A list: its cases and answers, and how octets stand in them.
 
 use std::collections::HashSet;
 use std::fmt::Write;
 
 #[derive(Default)]
 pub struct List {
-    text: String,
-    lines: HashSet<String>,
+    pub cases: String,
+    pub answers: String,
+    seen: HashSet<String>,
 }
 
 impl List {
-    // Adds a line, unless the list has it.
-    pub fn add(&mut self, line: String) {
-        if !self.lines.contains(&line) {
-            self.text += &line;
-            self.text.push('\n');
-            self.lines.insert(line);
+    // Adds a case and its answer, each a line, unless the list has the case.
+    pub fn add(&mut self, case: String, answer: &str) {
+        if !self.seen.contains(&case) {
+            self.cases += &case;
+            self.cases.push('\n');
+            self.answers += answer;
+            self.answers.push('\n');
+            self.seen.insert(case);
         }
-    }
-
-    // The lines in the order in which they came.
-    pub fn text(self) -> String {
-        self.text
     }
 }
 
@@ -35,10 +33,10 @@ pub fn hex(octets: &[u8]) -> String {
     for run in runs.flat_map(|run| run.chunks(0xFFFF)) {
         if run.len() < 8 {
             for octet in run {
-                write!(text, "{octet:02X}").unwrap();
+                write!(text, "{octet:02x}").unwrap();
             }
         } else {
-            write!(text, "{:02X}*{:04X}", run[0], run.len()).unwrap();
+            write!(text, "{:02x}*{:04x}", run[0], run.len()).unwrap();
         }
     }
     text

@@ -1,4 +1,5 @@
-// Runs the Rust and prints a list of its answers. Arguments: the list's name, the samples' folder.
+// Runs the Rust on a list of cases. Arguments: the list's name; `cases` or `answers`, which part to print; the samples'
+// folder.
 
 mod check;
 mod frame;
@@ -18,22 +19,30 @@ use std::io::Write;
 use std::path::Path;
 use std::process::ExitCode;
 
-// Prints the list that the first argument names.
+// Prints the part of the list that the arguments name.
 fn main() -> ExitCode {
     let arguments: Vec<String> = std::env::args().skip(1).collect();
-    let [name, samples] = arguments.as_slice() else {
-        eprintln!("answers: the driver takes a list's name and the folder of samples");
+    let [name, part, samples] = arguments.as_slice() else {
+        eprintln!("oracle: the driver takes a list's name, its part and the folder of samples");
         return ExitCode::from(2);
     };
-    let text = match name.as_str() {
-        "mstp" => mstp_list::text(Path::new(samples)),
+    let list = match name.as_str() {
+        "mstp" => mstp_list::list(Path::new(samples)),
         _ => {
-            eprintln!("answers: no list is called {name}; there is mstp");
+            eprintln!("oracle: no list is called {name}; there is mstp");
+            return ExitCode::from(2);
+        }
+    };
+    let text = match part.as_str() {
+        "cases" => list.cases,
+        "answers" => list.answers,
+        _ => {
+            eprintln!("oracle: no part is called {part}; there are cases and answers");
             return ExitCode::from(2);
         }
     };
     if let Err(error) = std::io::stdout().write_all(text.as_bytes()) {
-        eprintln!("answers: can't print the list: {error}");
+        eprintln!("oracle: can't print the list: {error}");
         return ExitCode::FAILURE;
     }
     ExitCode::SUCCESS

@@ -1,16 +1,21 @@
-// The list `mstp`: check octets, reading and writing of MS/TP frames. A line is a case, with one
-// space between its tokens:
+// The list `mstp`: check octets, reading and writing of MS/TP frames. A case and its answer are a
+// line each, with one space between the words:
 //
-//     H R FIVE CC                            header check of five octets
-//     D R OCTETS CCCC                        data check, as a number
-//     R R OCTETS F TTDDSSLLLLHH CCCC DATA    reading: header; data check, or `-` for none; data
-//     R R OCTETS E X n                       reading refused
-//     W R TTDDSS DATA SSSS F OCTETS          writing, into SSSS octets of output: the frame
-//     W R TTDDSS DATA SSSS E I 7             writing refused
-//     W R TTDDSS DATA SSSS N 8               no room: document 01 says 8, the Rust nothing
+//     H R FIVE                     header check of five octets
+//      CCCC                          as an array and as a slice
+//     D R OCTETS                   data check
+//      CCCC                          as a number
+//     R R OCTETS                   reading
+//     F TTDDSSLLLLHH CCCC DATA       the header; the data check, or `-` for none; the data
+//     EX nn -                        refused, and no data
+//     W R OCTETS SSSS              writing of type, destination, source and then the data, into
+//                                  SSSS octets of output that were a5
+//     F NNNN OCTETS                  the count; the output, and 16 octets behind it
+//     EX nn OCTETS                   refused; the same octets
 //
-// The second token is the rule, `h` house or `g` Annex G. X is the Rust's error, `I` InvalidFrame
-// or `C` CrcError, and n is the first of document 01's questions that fails. Octets: see list.rs.
+// The second word is the rule, `h` house or `g` Annex G. X is the Rust's error, `I` InvalidFrame or
+// `C` CrcError; `N` where it has no answer, as to question 8. nn is the first of document 01's
+// questions that fails. Octets: see list.rs.
 
 use std::path::Path;
 
@@ -29,7 +34,7 @@ pub const TOKEN: [u8; 3] = [0x00, 0x10, 0x05];
 pub const REQUEST: [u8; 3] = [0x05, 0x10, 0x05];
 
 // The whole list, the frames in the folder of samples among it.
-pub fn text(samples: &Path) -> String {
+pub fn list(samples: &Path) -> List {
     try_examples();
     let path = samples.join("mstp-frames.txt");
     let file = match std::fs::read_to_string(&path) {
@@ -46,31 +51,32 @@ pub fn text(samples: &Path) -> String {
         }
         mstp_writings::cases(&mut list, rule, &mut random);
     }
-    list.text()
+    list
 }
 
 // Adds the header check of five octets.
 pub fn header(list: &mut List, rule: Rule, five: [u8; 5]) {
     let check = rule.header_check(five);
-    list.add(format!("H {} {} {check:02X}", rule.letter(), hex(&five)));
+    let case = format!("H {} {}", rule.letter(), hex(&five));
+    list.add(case, &format!(" {check:02x}{check:02x}"));
 }
 
 // Adds the data check of some octets.
 pub fn data(list: &mut List, rule: Rule, octets: &[u8]) {
-    let check = rule.data_check(octets);
-    list.add(format!("D {} {} {check:04X}", rule.letter(), hex(octets)));
+    let case = format!("D {} {}", rule.letter(), hex(octets));
+    list.add(case, &format!(" {:04x}", rule.data_check(octets)));
 }
 
 // Adds the reading of some octets.
 pub fn reading(list: &mut List, rule: Rule, octets: &[u8]) {
-    let answer = frame::reading(rule, octets);
-    list.add(format!("R {} {} {answer}", rule.letter(), hex(octets)));
+    let case = format!("R {} {}", rule.letter(), hex(octets));
+    list.add(case, &frame::reading(rule, octets));
 }
 
 // Adds the writing of type, destination, source and data into so many octets of output.
 pub fn writing(list: &mut List, rule: Rule, three: [u8; 3], data: &[u8], output: usize) {
-    assert!(output <= 0xFFFF, "an output of {output} octets");
-    let answer = frame::writing(rule, three, data, output);
-    let (letter, three, data) = (rule.letter(), hex(&three), hex(data));
-    list.add(format!("W {letter} {three} {data} {output:04X} {answer}"));
+    assert!(output <= 0xFF00, "an output of {output} octets");
+    let input = [&three, data].concat();
+    let case = format!("W {} {} {output:04x}", rule.letter(), hex(&input));
+    list.add(case, &frame::writing(rule, three, data, output));
 }

@@ -38,7 +38,7 @@ fn lengths(list: &mut List, rule: Rule, random: &mut Random) {
         }
     }
     writing(list, rule, REQUEST, &random.octets(501), size(501));
-    writing(list, rule, TOKEN, &[], 0xFFFF);
+    writing(list, rule, TOKEN, &[], 0xFF00);
 }
 
 // Outputs too small for the frame; with 502 data octets question 7 comes first.

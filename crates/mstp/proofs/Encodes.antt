@@ -18,15 +18,15 @@ use Rattle.octets.proofs.Outputs.{take-front, length-front, front-sets, front-r
 use Rattle.octets.proofs.Questions.{passed, failed, none-fails}
 use Rattle.crc.specs.Rule.{headerCheck, dataCheck}
 use Rattle.crc.specs.declared.CheckRule.{CheckRule}
-use Rattle.mstp.specs.declared.MstpFrameType.{MstpFrameType}
-use Rattle.mstp.specs.declared.MstpDecoded.the-variants.{Frame}
-use Rattle.mstp.specs.Decode.{decode, frameData}
+use Rattle.mstp_frame.specs.declared.MstpFrameType.{MstpFrameType}
+use Rattle.mstp_decode.specs.declared.MstpDecoded.the-variants.{Frame}
+use Rattle.mstp_decode.specs.Decode.{decode, frameData}
 use Rattle.mstp.specs.Encode.{encodeQuestions, encodeQuestion, encodeAnswer, encodeOutput}
-use Rattle.mstp.specs.Frame.{headerFields, headerOctets, dataOctets, encodeFrame, frameSize}
-use Rattle.mstp.specs.FrameType.{typeNumber}
-use Rattle.mstp.specs.RoundTrip.{newHeader, ReadsBack}
-use Rattle.mstp.proofs.ReadsBack.{decode-back, data-back}
-use Rattle.mstp.proofs.Sizes.{size-least, size-some, data-size, encoded-size}
+use Rattle.mstp_frame.specs.Frame.{headerFields, headerOctets, dataOctets, encodeFrame, frameSize}
+use Rattle.mstp_frame.specs.FrameType.{typeNumber}
+use Rattle.mstp_decode.specs.RoundTrip.{newHeader, ReadsBack}
+use Rattle.mstp_decode.proofs.ReadsBack.{decode-back, data-back}
+use Rattle.mstp_frame.proofs.Sizes.{size-least, size-some, data-size, encoded-size}
 
 -- eight octets copied to the front are a header
 pub header-put : (rule : CheckRule) (t : MstpFrameType) (destination source n : ℕ) (out : List ℕ) {l : List ℕ} {number check : ℕ}

@@ -1,9 +1,1 @@
-pub mod Accepted
-pub mod Answers
-pub mod Decodes
 pub mod Encodes
-pub mod Errors
-pub mod FrameTypes
-pub mod ReadsBack
-pub mod Sizes
-pub mod WritesBack

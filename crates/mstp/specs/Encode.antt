@@ -9,8 +9,8 @@ use Rattle.octets.specs.Output.{writeAnswer, writeOutput}
 use Rattle.octets.specs.declared.Written.{Written}
 use Rattle.crc.specs.Rule.{headerCheck, dataCheck}
 use Rattle.crc.specs.declared.CheckRule.{CheckRule}
-use Rattle.mstp.specs.declared.MstpFrameType.{MstpFrameType}
-use Rattle.mstp.specs.Frame.{encodeFrame}
+use Rattle.mstp_frame.specs.declared.MstpFrameType.{MstpFrameType}
+use Rattle.mstp_frame.specs.Frame.{encodeFrame}
 
 -- the questions in document 01's order: of the data, the frame's octets and the lent output
 unfoldable pub encodeQuestions : List ℕ → List ℕ → List ℕ → List Question

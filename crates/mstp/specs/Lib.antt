@@ -1,5 +1,1 @@
-pub mod Decode
 pub mod Encode
-pub mod Frame
-pub mod FrameType
-pub mod RoundTrip

@@ -1,13 +1,13 @@
 // The parts of a frame, each written at the front of a lent output.
-use crate::MSTP_PREAMBLE_55;
-use crate::MSTP_PREAMBLE_FF;
-use crate::MstpFrameType;
 use crc::CheckRule;
+use mstp_frame::MSTP_PREAMBLE_55;
+use mstp_frame::MSTP_PREAMBLE_FF;
+use mstp_frame::MstpFrameType;
 ghost use mathlib.Core.Path.{_≡_};
-ghost use Prim.Native.Nat.{_≤_};
-ghost use lib.ListN.{length};
+ghost use Prim.Native.Nat.{_≤_, _<_};
+ghost use lib.ListN.{length, set};
 ghost use Rattle.octets.specs.Output.{atFront};
-ghost use Rattle.mstp.specs.Frame.{headerFields, headerOctets, dataOctets};
+ghost use Rattle.mstp_frame.specs.Frame.{headerFields, headerOctets, dataOctets};
 
 // A header that says n data octets.
 pub(crate) fn put_header(
@@ -38,6 +38,14 @@ pub(crate) fn put_header(
     bytes::copy(&header, out);
 }
 
+// One octet at a place.
+fn put(out: &mut [u8], at: usize, octet: u8)
+    requires { ⌜ at < length (now out) ⌝ }
+    ensures { λ _. ⌜ now (out .exit) ≡ set (now (out .entry)) at octet ⌝ }
+{
+    out[at] = octet;
+}
+
 // The data and their check, low octet first; nothing where there are no data.
 pub(crate) fn put_data(rule: CheckRule, body: &[u8], out: &mut [u8])
     requires { ⌜ length (dataOctets rule (now body)) ≤ length (now out) ⌝ }
@@ -48,6 +56,6 @@ pub(crate) fn put_data(rule: CheckRule, body: &[u8], out: &mut [u8])
     }
     let check = crc::crc16_mstp(rule, body);
     let end = bytes::copy(body, out);
-    out[end] = (check % 256) as u8;
-    out[end + 1] = (check / 256) as u8;
+    put(out, end, (check % 256) as u8);
+    put(out, end + 1, (check / 256) as u8);
 }

@@ -14,14 +14,14 @@ cast-frame-size c = search needs
 frame-size-requires : tie.Need-frame-size-requires
 frame-size-requires c κs = search needs
 
-returns-2 : tie.Need-returns-2
-returns-2 c = no-room _ _ _ _ _ _ (c .before .before .if1 .left) (c .before .frame-size .ensures .0) (c .if2 .taken)
-
 cast-put-header : tie.Need-cast-put-header
 cast-put-header c = search needs
 
 put-header-requires : tie.Need-put-header-requires
 put-header-requires c κs = search needs
+
+returns-2 : tie.Need-returns-2
+returns-2 c = no-room _ _ _ _ _ _ (c .before .before .if1 .left) (c .before .frame-size .ensures .0) (c .if2 .taken)
 
 sub-put-data : tie.Need-sub-put-data
 sub-put-data c = search needs

@@ -1,8 +1,10 @@
 -- `mstp::output::put_data` meets its contract: the data are copied, and their check is stored behind them.
 -- Assumes nothing.
-use Prim.Native.Nat.{_+_, _≤_}
+use mathlib.Core.Path.{ap, _∙_}
+use mathlib.Core.List.{List}
+use Prim.Native.Nat.{ℕ, _+_, _/_, _≤_}
 use native.Mathlib.Omega.{arith}
-use lib.ListN.{length, length-set}
+use lib.ListN.{length, set}
 use Rattle.mstp.proofs.Encodes.{some-size, no-data-put, data-put}
 use borrow.Author.Needs.{needs}
 use Rattle.mstp.proofs.output.put_data.Statement.{statement}
@@ -24,32 +26,36 @@ crc16-mstp-requires c κs = search needs
 copy-requires : tie.Need-copy-requires
 copy-requires c κs = omega (arith, room (c .before .before))
 
-cast-out : tie.Need-cast-out
-cast-out c = search needs
+cast-put : tie.Need-cast-put
+cast-put c = search needs
 
-slice-write-out : tie.Need-slice-write-out
-slice-write-out c = omega (arith, room (c .before .before .before .before .before))
+put-requires : tie.Need-put-requires
+put-requires c κs = omega (arith, room (c .before .before .before .before .before .before))
 
-cast-out-2 : tie.Need-cast-out-2
-cast-out-2 c = search needs
+add-put : tie.Need-add-put
+add-put c = search needs
 
-add-out : tie.Need-add-out
-add-out c = search needs
+cast-put-2 : tie.Need-cast-put-2
+cast-put-2 c = search needs
 
-slice-write-out-2 : tie.Need-slice-write-out-2
-slice-write-out-2 c = simp length-set (omega (arith, room (c .before .before .before .before .before)))
+put-requires-2 : tie.Need-put-requires-2
+put-requires-2 c κs = omega (arith, room (c .before .before .before .before .before .before .before .before .before .before))
 
 same-length : tie.Need-same-length
 same-length c = search needs
 
 returns-2 : tie.Need-returns-2
 returns-2 c =
-    let at = c .before .before .before .before .before in
+    let first = c .before .before .before .before .before .before in
+    let copied = first .before .before .before .before in
+    let at = copied .before .before .before in
     let a = at .before .before .before in
-    data-put (a .args .rule) (a .args .body .now) (a .args .out .now) (at .if1 .left) (a .pre)
-    (c .before .before .before .before .crc16-mstp .ensures)
-    (c .before .before .copy .ensures .0)
-    (c .before .before .copy .ensures .1)
+    let check = copied .before .before .crc16-mstp .result in
+    c .before .before .put2 .ensures
+    ∙ ap (λ (l : List ℕ). set l (copied .copy .result + 1) (check / 256)) (first .put .ensures)
+    ∙ data-put (a .args .rule) (a .args .body .now) (a .args .out .now) (at .if1 .left) (a .pre) (copied .before .before .crc16-mstp .ensures)
+    (copied .copy .ensures .0)
+    (copied .copy .ensures .1)
 
 pub put-data-spec : {M : Type 1} → statement M
 put-data-spec =
@@ -58,10 +64,10 @@ put-data-spec =
     returns
     crc16-mstp-requires
     copy-requires
-    cast-out
-    slice-write-out
-    cast-out-2
-    add-out
-    slice-write-out-2
+    cast-put
+    put-requires
+    add-put
+    cast-put-2
+    put-requires-2
     same-length
     returns-2)

@@ -1,0 +1,84 @@
+-- What `decode` and `frame_data` answer, with the round trip that each promises.
+-- Assumes nothing.
+use mathlib.Core.Path.{_≡_, refl, sym, ap, _∙_}
+use mathlib.Core.List.{List, []}
+use Prim.Native.Nat.{ℕ, zero, suc, _+_, _-_, _≤_, _<_, _^_}
+use native.Mathlib.Omega.{arith}
+use borrow.Author.Tests.{ne-eqb}
+use lib.ListN.{length, getD, take, drop}
+use Rattle.octets.proofs.Questions.{answered-value, answered-refused}
+use Rattle.crc.specs.declared.CheckRule.{CheckRule}
+use Rattle.mstp_decode.specs.declared.MstpHeader.{MstpHeader}
+use Rattle.mstp_decode.specs.declared.MstpDecoded.{MstpDecoded}
+use Rattle.mstp_decode.specs.declared.MstpDecoded.the-variants.{Frame, Refused}
+use Rattle.mstp_decode.specs.Decode.{dataLength, dataPart, decodeQuestion, headerOf, decode, frameData}
+use Rattle.mstp_frame.specs.Frame.{encodeFrame, frameSize}
+use Rattle.mstp_decode.specs.RoundTrip.{WritesBack, DataOf}
+use Rattle.mstp_decode.proofs.Accepted.{Accepted, accepted}
+use Rattle.mstp_decode.proofs.ReadsBack.{data-back}
+use Rattle.mstp_frame.proofs.Sizes.{size-some}
+use Rattle.mstp_decode.proofs.WritesBack.{written-back}
+
+module _ (rule : CheckRule) (s : List ℕ) where
+  -- the answer, and what it promises
+  abbrev Decoded : MstpDecoded → Type 0
+  Decoded answer = (answer ≡ decode rule s) × WritesBack rule s answer
+
+  abbrev Data : List ℕ → Type 0
+  Data part = (part ≡ frameData rule s) × DataOf rule s part
+
+  -- whatever is the data of the octets is the data that they were written with
+  data-of : {part : List ℕ} → part ≡ frameData rule s → Data part
+  data-of e = (e, λ t destination source body written. e ∙ ap (λ (l : List ℕ). frameData rule l) written ∙ data-back rule t destination source body)
+
+  module _ {q : ℕ} (asked : q ≡ decodeQuestion rule s) (fails : q ≡ 0 → ⊥) where
+    fails-here : decodeQuestion rule s ≡ 0 → ⊥
+    fails-here e = fails (asked ∙ e)
+
+    pub decode-refused : Decoded (Refused q)
+    unfolding decode
+    decode-refused = (
+      ap Refused asked ∙ sym (answered-refused Refused (Frame (headerOf s)) (decodeQuestion rule s) fails-here),
+      λ header e. let z : _≡_ {A = ℕ} 0 1 = cc in absurd (omega arith),
+    )
+
+    pub data-refused : Data []
+    unfolding frameData
+    data-refused = data-of (sym (answered-refused (λ _. []) (dataPart s) (decodeQuestion rule s) fails-here))
+
+  module _ {q : ℕ} (asked : q ≡ decodeQuestion rule s) (passes : q ≡ 0) where
+    none : decodeQuestion rule s ≡ 0
+    none = sym asked ∙ passes
+
+    pub facts : Accepted rule s
+    facts = accepted rule s none
+
+    part-is : frameData rule s ≡ dataPart s
+    unfolding frameData
+    part-is = answered-value (λ _. []) (dataPart s) none
+
+    pub decode-accepted : {header : MstpHeader} → ((i : ℕ) → getD s i 0 < 2 ^ 8) → header ≡ headerOf s → Decoded (Frame header)
+    unfolding decode headerOf
+    decode-accepted {header} octets e = (
+      ap Frame e ∙ sym (answered-value Refused (Frame (headerOf s)) none),
+      λ other same. back other cc,
+    )
+      where
+        back : (other : MstpHeader) → other ≡ headerOf s
+            → s ≡ encodeFrame rule (other .«frame_type») (other .destination) (other .source) (frameData rule s)
+        back other f = rw (f, part-is) (written-back rule s octets facts)
+
+    -- the data end within the frame
+    pub data-end : 8 + dataLength s ≤ length s
+    data-end = by (dataLength s) refl
+      where
+        by : (n : ℕ) → n ≡ dataLength s → 8 + n ≤ length s
+        by zero e = omega (arith, facts .long)
+        by (suc n) e = omega (arith, facts .size, size-some (dataLength s) (λ z. omega arith))
+
+    pub data-accepted : {n : ℕ} → n ≡ dataLength s → Data (take (8 + n - 8) (drop 8 s))
+    unfolding dataPart
+    data-accepted {n} e = data-of (ap (λ (k : ℕ). take k (drop 8 s)) counted ∙ sym part-is)
+      where
+        counted : 8 + n - 8 ≡ dataLength s
+        counted = omega (arith, e)

@@ -1,0 +1,5 @@
+pub mod Accepted
+pub mod Answers
+pub mod Decodes
+pub mod ReadsBack
+pub mod WritesBack

@@ -1,0 +1,2 @@
+pub mod FrameTypes
+pub mod Sizes

@@ -1,0 +1,58 @@
+-- `mstp_frame::type_of` meets its contract: each arm is an entry of the list of types.
+-- Assumes nothing.
+use mathlib.Core.Path.{_≡_}
+use Prim.Native.Nat.{ℕ, suc, _≤_, zero-le}
+use native.Mathlib.Omega.{arith}
+use Rattle.mstp_frame.specs.FrameType.{typeOf}
+use Rattle.mstp_frame.proofs.FrameTypes.{type-last}
+use Rattle.mstp_frame.proofs.type_of.Statement.{statement}
+use Rattle.mstp_frame.proofs.type_of.Tie as tie
+
+-- one more number that it is not
+next : {k n : ℕ} → k ≤ n → (n ≡ k → ⊥) → suc k ≤ n
+next h other = omega arith
+
+returns : tie.Need-returns
+unfolding typeOf
+returns c = rw (c .match .keys1)
+
+returns-2 : tie.Need-returns-2
+unfolding typeOf
+returns-2 c = rw (c .match .keys2)
+
+returns-3 : tie.Need-returns-3
+unfolding typeOf
+returns-3 c = rw (c .match .keys3)
+
+returns-4 : tie.Need-returns-4
+unfolding typeOf
+returns-4 c = rw (c .match .keys4)
+
+returns-5 : tie.Need-returns-5
+unfolding typeOf
+returns-5 c = rw (c .match .keys5)
+
+returns-6 : tie.Need-returns-6
+unfolding typeOf
+returns-6 c = rw (c .match .keys6)
+
+returns-7 : tie.Need-returns-7
+unfolding typeOf
+returns-7 c = rw (c .match .keys7)
+
+returns-8 : tie.Need-returns-8
+returns-8 c =
+    let r = c .match .rest in
+    type-last _
+    (next
+    (next
+    (next
+    (next (next (next (next zero-le (r .0 .0 .0 .0 .0 .0 .1)) (r .0 .0 .0 .0 .0 .1)) (r .0 .0 .0 .0 .1)) (r .0 .0 .0 .1))
+    (r .0 .0 .1))
+    (r .0 .1))
+    (r .1))
+
+pub type-of-spec : {M : Type 1} → statement M
+type-of-spec =
+    tie.close
+    (tie.spec returns returns-2 returns-3 returns-4 returns-5 returns-6 returns-7 returns-8)
