@@ -4,7 +4,7 @@
 use crate::check::Rule;
 use crate::datalink::mstp::{MstpFrame, MstpFrameType};
 use crate::datalink::DataLinkError;
-use crate::list::hex;
+use crate::list::{front, hex};
 
 // Type, destination, source, data length (2) and header check; data check; data.
 #[derive(Clone, Debug, PartialEq)]
@@ -19,9 +19,9 @@ impl Frame {
     fn text(&self) -> String {
         let check = match self.data_check {
             Some(check) => format!("{check:04x}"),
-            None => "-".to_string(),
+            None => "none".to_string(),
         };
-        format!("{} {check} {}", hex(&self.header), hex(&self.data))
+        format!("{} {check} {}", hex(&self.header), front(&self.data))
     }
 }
 
@@ -33,7 +33,7 @@ pub fn reading(rule: Rule, octets: &[u8]) -> String {
         assert_eq!(rust_read(octets), expected, "reading {}", hex(octets));
     }
     match answer {
-        Err(question) => format!("E{} {question:02x} -", class(question)),
+        Err(question) => format!("E{} {question:02x} ", class(question)),
         Ok(frame) => format!("F {}", frame.text()),
     }
 }
@@ -115,7 +115,7 @@ pub fn writing(rule: Rule, three: [u8; 3], data: &[u8], output: usize) -> String
             format!("F {:04x}", octets.len())
         }
     };
-    format!("{told} {}", hex(&after))
+    format!("{told} {}", front(&after))
 }
 
 // A frame with right checks, of any type and up to 65,535 data octets.

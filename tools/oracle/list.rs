@@ -23,23 +23,38 @@ impl List {
     }
 }
 
-// The octets: two digits each; `hh*kkkk` for a run of kkkk octets hh, 8 or more; `-` for none.
+// The octets, two digits each.
 pub fn hex(octets: &[u8]) -> String {
-    if octets.is_empty() {
-        return "-".to_string();
-    }
     let mut text = String::new();
-    let runs = octets.chunk_by(|a, b| a == b);
-    for run in runs.flat_map(|run| run.chunks(0xFFFF)) {
-        if run.len() < 8 {
-            for octet in run {
-                write!(text, "{octet:02x}").unwrap();
-            }
-        } else {
-            write!(text, "{:02x}*{:04x}", run[0], run.len()).unwrap();
-        }
+    for octet in octets {
+        write!(text, "{octet:02x}").unwrap();
     }
     text
+}
+
+// The octets as an answer has them: all, or the first 1,100.
+pub fn front(octets: &[u8]) -> String {
+    hex(&octets[..octets.len().min(1100)])
+}
+
+// The octets as a case has them, behind two numbers of four digits: how many zeros are left out
+// before the last two, only where there are many octets; and the size of an output.
+pub fn case(octets: &[u8], size: usize) -> String {
+    let mut left = 0;
+    let mut told = octets.to_vec();
+    if octets.len() > 1500 {
+        let last = told.split_off(octets.len() - 2);
+        while told.last() == Some(&0) {
+            told.pop();
+            left += 1;
+        }
+        told.extend(last);
+    }
+    assert!(
+        told.len() <= 1500 && left <= 0xFFFF && size <= 0xFFFF,
+        "a case too long"
+    );
+    format!("{left:04x}{size:04x}{}", hex(&told))
 }
 
 // The frames of a file of samples, each a line of octets with spaces between; `#` begins a comment.

@@ -52,7 +52,6 @@ fn datas(list: &mut List, rule: Rule, random: &mut Random) {
         data(list, rule, &random.octets(count));
         data(list, rule, &vec![random.octet(); count]);
     }
-    for octet in [0x00, 0xFF] {
-        data(list, rule, &vec![octet; 0xFFFF]);
-    }
+    data(list, rule, &vec![0x00; 0xFFFF]);
+    data(list, rule, &random.long(0xFFFF));
 }

@@ -1,27 +1,27 @@
 // The list `mstp`: check octets, reading and writing of MS/TP frames. A case and its answer are a
-// line each, with one space between the words:
+// line each:
 //
-//     H R FIVE                     header check of five octets
+//     HR OCTETS                    header check of five octets
 //      CCCC                          as an array and as a slice
-//     D R OCTETS                   data check
+//     DR OCTETS                    data check
 //      CCCC                          as a number
-//     R R OCTETS                   reading
-//     F TTDDSSLLLLHH CCCC DATA       the header; the data check, or `-` for none; the data
-//     EX nn -                        refused, and no data
-//     W R OCTETS SSSS              writing of type, destination, source and then the data, into
-//                                  SSSS octets of output that were a5
-//     F NNNN OCTETS                  the count; the output, and 16 octets behind it
-//     EX nn OCTETS                   refused; the same octets
+//     RR OCTETS                    reading
+//     F TTDDSSLLLLHH CCCC DATA       the header; the data check, or `none`; the data
+//     EX nn                          refused, and no data
+//     WR OCTETS                    writing of type, destination, source and then the data, into an
+//                                  output that was a5
+//     F NNNN OUTPUT                  the count; the output, and 16 octets behind it
+//     EX nn OUTPUT                   refused; the same octets
 //
-// The second word is the rule, `h` house or `g` Annex G. X is the Rust's error, `I` InvalidFrame or
-// `C` CrcError; `N` where it has no answer, as to question 8. nn is the first of document 01's
-// questions that fails. Octets: see list.rs.
+// In a case nothing stands between the words; OCTETS: see list.rs. The second letter is the rule, `h`
+// house or `g` Annex G. X is the Rust's error, `I` InvalidFrame or `C` CrcError; `N` where it has no
+// answer, as to question 8. nn is the first of document 01's questions that fails.
 
 use std::path::Path;
 
 use crate::check::{try_examples, Rule};
 use crate::frame;
-use crate::list::{frames, hex, List};
+use crate::list::{case, frames, List};
 use crate::random::Random;
 use crate::{mstp_checks, mstp_readings, mstp_writings};
 
@@ -57,26 +57,30 @@ pub fn list(samples: &Path) -> List {
 // Adds the header check of five octets.
 pub fn header(list: &mut List, rule: Rule, five: [u8; 5]) {
     let check = rule.header_check(five);
-    let case = format!("H {} {}", rule.letter(), hex(&five));
-    list.add(case, &format!(" {check:02x}{check:02x}"));
+    let answer = format!(" {check:02x}{check:02x}");
+    add(list, 'H', rule, case(&five, 0), &answer);
 }
 
 // Adds the data check of some octets.
 pub fn data(list: &mut List, rule: Rule, octets: &[u8]) {
-    let case = format!("D {} {}", rule.letter(), hex(octets));
-    list.add(case, &format!(" {:04x}", rule.data_check(octets)));
+    let answer = format!(" {:04x}", rule.data_check(octets));
+    add(list, 'D', rule, case(octets, 0), &answer);
 }
 
 // Adds the reading of some octets.
 pub fn reading(list: &mut List, rule: Rule, octets: &[u8]) {
-    let case = format!("R {} {}", rule.letter(), hex(octets));
-    list.add(case, &frame::reading(rule, octets));
+    let answer = frame::reading(rule, octets);
+    add(list, 'R', rule, case(octets, 0), &answer);
 }
 
 // Adds the writing of type, destination, source and data into so many octets of output.
 pub fn writing(list: &mut List, rule: Rule, three: [u8; 3], data: &[u8], output: usize) {
-    assert!(output <= 0xFF00, "an output of {output} octets");
     let input = [&three, data].concat();
-    let case = format!("W {} {} {output:04x}", rule.letter(), hex(&input));
-    list.add(case, &frame::writing(rule, three, data, output));
+    let answer = frame::writing(rule, three, data, output);
+    add(list, 'W', rule, case(&input, output), &answer);
+}
+
+// Adds a case of a kind.
+fn add(list: &mut List, kind: char, rule: Rule, case: String, answer: &str) {
+    list.add(format!("{kind}{}{case}", rule.letter()), answer);
 }

@@ -26,12 +26,13 @@ impl Random {
         (0..count).map(|_| self.octet()).collect()
     }
 
-    // So many octets that stay short in a list: where they are many, a run between random ones.
+    // So many octets; where they are very many, only the first 16 are random and the others 0.
     pub fn long(&mut self, count: usize) -> Vec<u8> {
-        if count <= 32 {
+        if count <= 1024 {
             return self.octets(count);
         }
-        let run = vec![self.octet(); count - 32];
-        [self.octets(16), run, self.octets(16)].concat()
+        let mut octets = self.octets(16);
+        octets.resize(count, 0);
+        octets
     }
 }

@@ -16,13 +16,12 @@ const BEFORE: u8 = 0xA5;
 
 const BEHIND: usize = 16;
 
-// Answers the case of a line: kind, rule, octets and, in writing, the size of the output.
+// Answers the case of a line: a letter for its kind and one for the rule, then the digits of octets. The first four are
+// two numbers: how many zeros are left out before the last two octets, and the size of an output.
 pub(crate) fn answer(line: &[u8]) {
-    let mut input = text::space(0);
-    let n = text::spell(text::word(line, 2), &mut input);
-    let rule = rule_of(text::letter(text::word(line, 1)));
-    let size = text::number(text::word(line, 3));
-    answer_to(text::letter(text::word(line, 0)), rule, &input[..n], size);
+    let mut octets = text::space(0);
+    let n = text::spell(line, &mut octets);
+    answer_to(line, &octets[..n]);
     text::print(b"\n");
 }
 
@@ -35,12 +34,21 @@ fn rule_of(letter: u8) -> CheckRule {
 }
 
 // Answers a case by its kind.
-fn answer_to(kind: u8, rule: CheckRule, input: &[u8], size: u16) {
+fn answer_to(line: &[u8], octets: &[u8]) {
+    if line.len() < 2 {
+        return;
+    }
+    if octets.len() < 4 {
+        return;
+    }
+    let rule = rule_of(line[1]);
+    let input = &octets[4..];
+    let kind = line[0];
     match kind {
         b'H' => header_check(rule, input),
         b'D' => print_check(crc::crc16_mstp(rule, input)),
         b'R' => reading(rule, input),
-        b'W' => writing(rule, input, size),
+        b'W' => writing(rule, input, octets::number(octets[2], octets[3])),
         _ => text::print(b"no kind"),
     }
 }
@@ -90,7 +98,7 @@ fn print_header(header: MstpHeader) {
     text::print_octets(&fields);
     match data_crc {
         DataCrc::Present(check) => print_check(check),
-        DataCrc::Absent => text::print(b" -"),
+        DataCrc::Absent => text::print(b" none"),
     }
 }
 

@@ -1,7 +1,7 @@
-// The words of a line, the octets that a word spells, and octets as words.
+// A line's octets, and octets as text.
 use libc::STDIN_FILENO;
 use libc::STDOUT_FILENO;
-ghost use Prim.Native.Nat.{_+_, _≤_, _<_};
+ghost use Prim.Native.Nat.{_≤_, _<_};
 ghost use mathlib.Core.Path.{_≡_};
 ghost use lib.ListN.{length};
 ghost use Rattle.io.specs.Counts.{Counts};
@@ -13,7 +13,7 @@ pub(crate) fn space(octet: u8) -> [u8; 65600]
     [octet; 65600]
 }
 
-// Reads a line of standard input to the front of `line`, with a space for its end, and answers its count; 0 at the end.
+// Reads a line of standard input to the front of `line` and answers its count, without its end; 0 at the end.
 pub(crate) fn read_line(line: &mut [u8]) -> usize
     ensures { λ r. ⌜ Counts r (now (line .exit)) ⌝ }
 {
@@ -24,37 +24,12 @@ pub(crate) fn read_line(line: &mut [u8]) -> usize
             return n;
         }
         if one[0] == b'\n' {
-            line[n] = b' ';
-            return n + 1;
+            return n;
         }
         line[n] = one[0];
         n += 1;
     }
     n
-}
-
-// Word k of a line, from 0; empty where the line has fewer. A space ends a word.
-pub(crate) fn word(line: &[u8], k: usize) -> &[u8] {
-    let mut at = 0;
-    let mut left = k;
-    while 0 < left {
-        let end = bytes::scan::find(line, at, line.len(), b' ');
-        if end == line.len() {
-            return &line[..0];
-        }
-        at = end + 1;
-        left -= 1;
-    }
-    let end = bytes::scan::find(line, at, line.len(), b' ');
-    &line[at..end]
-}
-
-// The first letter of a word; 0 where it has none.
-pub(crate) fn letter(word: &[u8]) -> u8 {
-    if word.len() == 0 {
-        return 0;
-    }
-    word[0]
 }
 
 // The value of a hexadecimal digit; 0 for any other octet.
@@ -68,86 +43,53 @@ fn digit(c: u8) -> u32
     }
 }
 
-// The number that the last four digits of a word spell.
-pub(crate) fn number(word: &[u8]) -> u16 {
-    let mut n: u32 = 0;
-    let mut i = 0;
-    while i < word.len() {
-        n = (n * 16 + digit(word[i])) % 65536;
-        i += 1;
-    }
-    (n % 65536) as u16
-}
-
-// How often an octet stands, and how many letters behind it say so.
-struct Run {
-    times: usize,
-    width: usize,
-}
-
-// The run that a word has at a place: `*` and four digits, else once.
-fn run_at(word: &[u8], i: usize) -> Run
-    requires { ⌜ i ≤ length (now word) ⌝ }
-    ensures { λ r. ⌜ i + r .width ≤ length (now (word .entry)) ⌝ }
+// The place for the next octet behind n of them: n or, where two octets (four digits) are left, behind the zeros that
+// were left out, as many as the first two octets say.
+fn next_place(octets: &[u8], n: usize, left: usize) -> usize
+    requires { ⌜ n ≤ length (now octets) ⌝ }
+    ensures { λ r. ⌜ r ≤ length (now (octets .entry)) ⌝ }
 {
-    if word.len() - i < 5 {
-        return Run { times: 1, width: 0 };
+    if left != 4 {
+        return n;
     }
-    if word[i] != b'*' {
-        return Run { times: 1, width: 0 };
+    if n < 4 {
+        return n;
     }
-    Run {
-        times: number(&word[i + 1..i + 5]) as usize,
-        width: 5,
+    let zeros = octets::number(octets[0], octets[1]) as usize;
+    if octets.len() - n < zeros {
+        return n;
     }
+    n + zeros
 }
 
-// Puts an octet into `out` so many times from a place on, as far as there is room, and answers the place behind.
-fn fill(out: &mut [u8], from: usize, times: usize, octet: u8) -> usize
-    requires { ⌜ from ≤ length (now out) ⌝ }
-    ensures { λ r. ⌜ (r ≤ length (now (out .exit))) × (length (now (out .exit)) ≡ length (now (out .entry))) ⌝ }
-{
-    let mut at = from;
-    let mut left = times;
-    while 0 < left {
-        if at == out.len() {
-            return at;
-        }
-        out[at] = octet;
-        at += 1;
-        left -= 1;
-    }
-    at
-}
-
-// Puts the octets that a word spells at the front of `out`, as far as there is room, and answers their count.
-pub(crate) fn spell(word: &[u8], out: &mut [u8]) -> usize
+// Puts the octets that the digits of a line spell, behind its two letters, at the front of `out`, which is zero, and
+// answers their count.
+pub(crate) fn spell(line: &[u8], out: &mut [u8]) -> usize
     ensures { λ r. ⌜ Counts r (now (out .exit)) ⌝ }
 {
-    let mut i = 0;
+    let mut i = 2;
     let mut n = 0;
-    while i + 1 < word.len() {
-        let octet = (digit(word[i]) * 16 + digit(word[i + 1])) as u8;
-        let run = run_at(word, i + 2);
-        n = fill(out, n, run.times, octet);
-        i = i + 2 + run.width;
+    while i < line.len() {
+        n = next_place(out, n, line.len() - i);
+        if n == out.len() {
+            return n;
+        }
+        out[n] = pair(line, i);
+        n += 1;
+        i += 2;
     }
     n
 }
 
-// How many octets from a place on equal the one there.
-fn run_from(s: &[u8], from: usize) -> usize
-    requires { ⌜ from < length (now s) ⌝ }
-    ensures { λ r. ⌜ (0 < r) × (from + r ≤ length (now (s .entry))) ⌝ }
-{
-    let mut end = from + 1;
-    while end < s.len() {
-        if s[end] != s[from] {
-            return end - from;
-        }
-        end += 1;
+// The octet that two digits spell.
+fn pair(line: &[u8], i: usize) -> u8 {
+    if line.len() <= i {
+        return 0;
     }
-    end - from
+    if line.len() - i < 2 {
+        return 0;
+    }
+    (digit(line[i]) * 16 + digit(line[i + 1])) as u8
 }
 
 // Prints some letters.
@@ -160,27 +102,15 @@ fn print_octet(octet: u8) {
     io::print_hex(STDOUT_FILENO, octet as u64, 2);
 }
 
-// Prints a word of octets: two digits each, a run of 8 or more as `hh*kkkk`, `-` for none.
+// Prints a space and octets, two digits each: all of them, or the first 1,100.
 pub(crate) fn print_octets(s: &[u8]) {
     print(b" ");
-    if s.len() == 0 {
-        print(b"-");
-    }
     let mut i = 0;
     while i < s.len() {
-        let run = run_from(s, i);
-        print_octet(s[i]);
-        if run < 8 {
-            i += 1;
-        } else {
-            print_run(run);
-            i += run;
+        if i == 1100 {
+            return;
         }
+        print_octet(s[i]);
+        i += 1;
     }
-}
-
-// Prints how often an octet stands.
-fn print_run(run: usize) {
-    print(b"*");
-    io::print_hex(STDOUT_FILENO, run as u64, 4);
 }

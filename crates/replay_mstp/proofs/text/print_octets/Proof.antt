@@ -1,14 +1,13 @@
--- `text::print_octets` is safe and ends: each turn passes an octet or a run.
+-- `text::print_octets` is safe and ends: each turn passes an octet.
 -- Assumes nothing.
-use Prim.Native.Nat.{_≤_, _-_}
-use native.Mathlib.Omega.{arith}
+use Prim.Native.Nat.{_-_}
 use lib.ListN.{length}
 use borrow.Author.Needs.{needs}
 use Rattle.replay_mstp.proofs.text.print_octets.Statement.{statement}
 use Rattle.replay_mstp.proofs.text.print_octets.Tie as tie
 
 abbrev Inv-loop : tie.InvT-loop
-Inv-loop s i₀ i = i ≤ length s
+Inv-loop s i₀ i = Unit {0}
 
 abbrev μ-loop : tie.MeasureT-loop
 μ-loop s i₀ i = length s - i
@@ -19,17 +18,11 @@ slice-aggregate-print c = search needs
 print-requires : tie.Need-print-requires Inv-loop μ-loop
 print-requires c κs = search needs
 
-slice-aggregate-print-2 : tie.Need-slice-aggregate-print-2 Inv-loop μ-loop
-slice-aggregate-print-2 c = search needs
-
-print-requires-2 : tie.Need-print-requires-2 Inv-loop μ-loop
-print-requires-2 c κs = search needs
-
 loop-holds : tie.Need-loop-holds Inv-loop μ-loop
 loop-holds c = search needs
 
-run-from-requires : tie.Need-run-from-requires Inv-loop μ-loop
-run-from-requires c κs = search needs
+returns : tie.Need-returns Inv-loop μ-loop
+returns c = search needs
 
 shared-slice-read-print-octet : tie.Need-shared-slice-read-print-octet Inv-loop μ-loop
 shared-slice-read-print-octet c = search needs
@@ -46,20 +39,8 @@ loop-less c = search needs
 loop-again : tie.Need-loop-again Inv-loop μ-loop
 loop-again c = search needs
 
-print-run-requires : tie.Need-print-run-requires Inv-loop μ-loop
-print-run-requires c κs = search needs
-
-add-i-2 : tie.Need-add-i-2 Inv-loop μ-loop
-add-i-2 c = search needs
-
-loop-less-2 : tie.Need-loop-less-2 Inv-loop μ-loop
-loop-less-2 c = search needs
-
-loop-again-2 : tie.Need-loop-again-2 Inv-loop μ-loop
-loop-again-2 c = search needs
-
-returns : tie.Need-returns Inv-loop μ-loop
-returns c = search needs
+returns-2 : tie.Need-returns-2 Inv-loop μ-loop
+returns-2 c = search needs
 
 pub print-octets-spec : {M : Type 1} → statement M
 print-octets-spec =
@@ -69,17 +50,11 @@ print-octets-spec =
     μ-loop
     slice-aggregate-print
     print-requires
-    slice-aggregate-print-2
-    print-requires-2
     loop-holds
-    run-from-requires
+    returns
     shared-slice-read-print-octet
     print-octet-requires
     add-i
     loop-less
     loop-again
-    print-run-requires
-    add-i-2
-    loop-less-2
-    loop-again-2
-    returns)
+    returns-2)

@@ -33,23 +33,17 @@ returns c = counts _ _ (omega arith)
 array-read-if2 : tie.Need-array-read-if2 Inv-loop μ-loop
 array-read-if2 c = search needs
 
-slice-write-line : tie.Need-slice-write-line Inv-loop μ-loop
-slice-write-line c = search needs
-
-add-result : tie.Need-add-result Inv-loop μ-loop
-add-result c = search needs
-
 same-length-2 : tie.Need-same-length-2 Inv-loop μ-loop
-same-length-2 c = simp length-set (omega arith)
+same-length-2 c = search needs
 
 returns-2 : tie.Need-returns-2 Inv-loop μ-loop
-returns-2 c = counts _ _ (simp length-set (omega arith))
+returns-2 c = counts _ _ (omega arith)
 
 array-read-line : tie.Need-array-read-line Inv-loop μ-loop
 array-read-line c = search needs
 
-slice-write-line-2 : tie.Need-slice-write-line-2 Inv-loop μ-loop
-slice-write-line-2 c = search needs
+slice-write-line : tie.Need-slice-write-line Inv-loop μ-loop
+slice-write-line c = search needs
 
 add-n : tie.Need-add-n Inv-loop μ-loop
 add-n c = search needs
@@ -78,12 +72,10 @@ read-line-spec =
     same-length
     returns
     array-read-if2
-    slice-write-line
-    add-result
     same-length-2
     returns-2
     array-read-line
-    slice-write-line-2
+    slice-write-line
     add-n
     loop-less
     loop-again
