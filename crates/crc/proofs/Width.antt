@@ -1,6 +1,5 @@
 -- What fits a width of w bits stays within it, whatever the constant k.
 -- Assumes nothing.
-use mathlib.Core.Path.{_≡_}
 use mathlib.Core.List.{List, [], _∷_}
 use Prim.Native.Nat.{ℕ, zero, suc, _/_, _%_, _^_, _<_}
 use native.Mathlib.Omega.{arith}
@@ -9,7 +8,7 @@ use lib.Dec.{lit<}
 use lib.ListN.{getD}
 use lib.Pow.{ones-sub-lt}
 use Rattle.crc.specs.Check.{xorIf, step, steps, octetStep, register, ones, check}
-use Rattle.crc.specs.Rule.{headerConstant, dataConstant}
+use Rattle.crc.specs.Rule.{headerConstant}
 use Rattle.crc.specs.declared.CheckRule.{CheckRule}
 use Rattle.crc.specs.declared.CheckRule.the-variants.{AnnexG, House}
 

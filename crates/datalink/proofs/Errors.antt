@@ -1,10 +1,10 @@
 -- The cases of the Rust's error for a question.
 -- Assumes nothing.
-use mathlib.Core.Path.{_≡_, refl}
+use mathlib.Core.Path.{_≡_}
 use mathlib.Core.Logic.{_⊎_, inl, inr}
 use Prim.Native.Nat.{ℕ, _≤_, _<_}
 use native.Mathlib.Omega.{arith}
-use borrow.Author.Tests.{eq-eqb, ne-eqb, le-leb, lt-leb}
+use borrow.Author.Tests.{ne-eqb, le-leb, lt-leb}
 use Rattle.datalink.specs.declared.DataLinkError.the-variants.{InvalidFrame, CrcError, Unmatched}
 use Rattle.datalink.specs.Error.{errorOf}
 

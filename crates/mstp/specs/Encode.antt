@@ -7,7 +7,6 @@ use lib.ListN.{length}
 use Rattle.octets.specs.Question.{Question, ask, firstNo}
 use Rattle.octets.specs.Output.{writeAnswer, writeOutput}
 use Rattle.octets.specs.declared.Written.{Written}
-use Rattle.crc.specs.Rule.{headerCheck, dataCheck}
 use Rattle.crc.specs.declared.CheckRule.{CheckRule}
 use Rattle.mstp_frame.specs.declared.MstpFrameType.{MstpFrameType}
 use Rattle.mstp_frame.specs.Frame.{encodeFrame}
@@ -17,6 +16,7 @@ unfoldable pub encodeQuestions : List ℕ → List ℕ → List ℕ → List Que
 encodeQuestions body frame out = ask 7 (leb (length body) 501) ∷ ask 8 (leb (length frame) (length out)) ∷ []
 
 module _ (rule : CheckRule) (frameType : MstpFrameType) (destination source : ℕ) (body out : List ℕ) where
+  -- the frame's octets
   abbrev frame : List ℕ
   frame = encodeFrame rule frameType destination source body
 

@@ -4,7 +4,6 @@ use mathlib.Core.Path.{_≡_, refl, sym, ap, _∙_}
 use mathlib.Core.List.{List, []}
 use Prim.Native.Nat.{ℕ, zero, suc, _+_, _-_, _≤_, _<_, _^_}
 use native.Mathlib.Omega.{arith}
-use borrow.Author.Tests.{ne-eqb}
 use lib.ListN.{length, getD, take, drop}
 use Rattle.octets.proofs.Questions.{answered-value, answered-refused}
 use Rattle.crc.specs.declared.CheckRule.{CheckRule}
@@ -12,7 +11,7 @@ use Rattle.mstp_decode.specs.declared.MstpHeader.{MstpHeader}
 use Rattle.mstp_decode.specs.declared.MstpDecoded.{MstpDecoded}
 use Rattle.mstp_decode.specs.declared.MstpDecoded.the-variants.{Frame, Refused}
 use Rattle.mstp_decode.specs.Decode.{dataLength, dataPart, decodeQuestion, headerOf, decode, frameData}
-use Rattle.mstp_frame.specs.Frame.{encodeFrame, frameSize}
+use Rattle.mstp_frame.specs.Frame.{encodeFrame}
 use Rattle.mstp_decode.specs.RoundTrip.{WritesBack, DataOf}
 use Rattle.mstp_decode.proofs.Accepted.{Accepted, accepted}
 use Rattle.mstp_decode.proofs.ReadsBack.{data-back}

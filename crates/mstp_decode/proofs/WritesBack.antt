@@ -1,23 +1,22 @@
 -- What reading accepts is what writing gives for what was read: eight octets of header, then the data and their check.
 -- Assumes nothing.
-use mathlib.Core.Path.{_≡_, refl, sym, ap, ap₂, _∙_, subst}
+use mathlib.Core.Path.{_≡_, refl, sym, ap, ap₂, _∙_}
 use mathlib.Core.List.{List, [], _∷_, _++_}
-use Prim.Native.Nat.{ℕ, zero, suc, _+_, _-_, _*_, _/_, _%_, _^_, _≤_, _<_}
+use Prim.Native.Nat.{ℕ, zero, suc, _+_, _-_, _/_, _%_, _^_, _≤_, _<_}
 use native.Mathlib.Omega.{arith}
 use lib.ListN.{length, getD, take, drop, length-drop, take-append-drop}
 use lib.Seq.{drop-cons, getD-drop, length-take-le}
-use Rattle.octets.specs.Number.{number, highFirst, lowFirst}
-use Rattle.octets.proofs.Questions.{answered-value}
-use Rattle.crc.specs.Rule.{headerCheck, dataCheck}
+use Rattle.octets.specs.Number.{number, lowFirst}
+use Rattle.crc.specs.Rule.{dataCheck}
 use Rattle.crc.specs.declared.CheckRule.{CheckRule}
-use Rattle.mstp_decode.specs.Decode.{dataLength, dataPart, dataCheckSent, decodeQuestion, frameData}
-use Rattle.mstp_frame.specs.Frame.{headerFields, headerOctets, dataOctets, encodeFrame, frameSize}
+use Rattle.mstp_decode.specs.Decode.{dataLength, dataPart, dataCheckSent}
+use Rattle.mstp_frame.specs.Frame.{dataOctets, encodeFrame}
 use Rattle.mstp_frame.specs.FrameType.{typeNumber, typeOf}
-use Rattle.mstp_decode.proofs.Accepted.{Accepted, accepted}
+use Rattle.mstp_decode.proofs.Accepted.{Accepted}
 use Rattle.mstp_frame.proofs.FrameTypes.{number-back}
 use Rattle.mstp_frame.proofs.Sizes.{size-none, size-some}
 
--- a list of one and of two elements
+-- a list of no element, and of two
 none : (l : List ℕ) → length l ≡ 0 → l ≡ []
 none [] h = refl
 none (a ∷ l) h = absurd (omega arith)

@@ -1,7 +1,7 @@
 -- Reading an MS/TP frame: questions 1 to 6, the header and the data.
 -- Assumes nothing.
 use Prim.Native.Nat.{ℕ, _+_}
-use mathlib.Core.Bool.{Bool, true, cond, _&&_, _||_}
+use mathlib.Core.Bool.{Bool, cond, _&&_, _||_}
 use mathlib.Core.List.{List, [], _∷_}
 use lib.Dec.{leb, eqb}
 use lib.ListN.{length, getD, take, drop}
@@ -29,12 +29,15 @@ dataPart s = take (dataLength s) (drop 8 s)
 unfoldable pub dataCheckSent : List ℕ → ℕ
 dataCheckSent s = number (getD s (dataLength s + 9) 0) (getD s (dataLength s + 8) 0)
 
+-- the first two octets are 55 FF
 unfoldable pub beginsPreamble : List ℕ → Bool
 beginsPreamble s = eqb (getD s 0 0) 0x55 && eqb (getD s 1 0) 0xFF
 
+-- the eighth octet is the check of the five behind the preamble
 unfoldable pub headerCheckRight : CheckRule → List ℕ → Bool
 headerCheckRight rule s = eqb (headerCheck rule (take 5 (drop 2 s))) (getD s 7 0)
 
+-- there are no data, or the check that was sent is theirs
 unfoldable pub dataCheckRight : CheckRule → List ℕ → Bool
 dataCheckRight rule s = eqb (dataLength s) 0 || eqb (dataCheck rule (dataPart s)) (dataCheckSent s)
 

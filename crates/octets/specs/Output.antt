@@ -1,6 +1,6 @@
 -- What a writer answers, and what it leaves in the output that it was lent.
 -- Assumes nothing.
-use Prim.Native.Nat.{ℕ, zero, suc}
+use Prim.Native.Nat.{ℕ}
 use mathlib.Core.List.{List, _++_}
 use lib.ListN.{length, drop}
 use Rattle.octets.specs.Question.{answered}

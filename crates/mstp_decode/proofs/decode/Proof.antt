@@ -1,7 +1,6 @@
 -- `mstp_decode::decode` meets its contract: the questions decide between the refusal and the header, whose type question 3 lets through.
 -- Assumes nothing.
 use native.Mathlib.Omega.{arith}
-use lib.ListN.{getD}
 use mathlib.Core.Path.{sym, _∙_}
 use Rattle.mstp_frame.proofs.FrameTypes.{known-is, known-some}
 use Rattle.mstp_decode.proofs.Accepted.{Accepted}

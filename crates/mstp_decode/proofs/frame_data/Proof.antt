@@ -1,6 +1,5 @@
 -- `mstp_decode::frame_data` meets its contract: the questions decide between no octets and the part behind the header.
 -- Assumes nothing.
-use native.Mathlib.Omega.{arith}
 use Rattle.mstp_decode.proofs.Answers.{data-refused, data-accepted, data-end, facts}
 use borrow.Author.Needs.{needs}
 use Rattle.mstp_decode.proofs.frame_data.Statement.{statement}
