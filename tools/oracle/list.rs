@@ -11,8 +11,11 @@ pub struct List {
 }
 
 impl List {
-    // Adds a case and its answer, each a line, unless the list has the case.
-    pub fn add(&mut self, case: String, answer: &str) {
+    // Adds a case and its answer, each a line, unless the list has the case. A case is two letters,
+    // octets and the size of an output.
+    pub fn add(&mut self, letters: [char; 2], octets: &[u8], size: usize, answer: &str) {
+        let [kind, rule] = letters;
+        let case = format!("{kind}{rule}{}", case(octets, size));
         if !self.seen.contains(&case) {
             self.cases += &case;
             self.cases.push('\n');
@@ -23,6 +26,9 @@ impl List {
     }
 }
 
+// The most octets that a case tells, or that an answer shows of one thing.
+const MOST: usize = 2000;
+
 // The octets, two digits each.
 pub fn hex(octets: &[u8]) -> String {
     let mut text = String::new();
@@ -32,17 +38,17 @@ pub fn hex(octets: &[u8]) -> String {
     text
 }
 
-// The octets as an answer has them: all, or the first 1,100.
+// The octets as an answer has them: all, or the first of very many.
 pub fn front(octets: &[u8]) -> String {
-    hex(&octets[..octets.len().min(1100)])
+    hex(&octets[..octets.len().min(MOST)])
 }
 
 // The octets as a case has them, behind two numbers of four digits: how many zeros are left out
 // before the last two, only where there are many octets; and the size of an output.
-pub fn case(octets: &[u8], size: usize) -> String {
+fn case(octets: &[u8], size: usize) -> String {
     let mut left = 0;
     let mut told = octets.to_vec();
-    if octets.len() > 1500 {
+    if octets.len() > MOST {
         let last = told.split_off(octets.len() - 2);
         while told.last() == Some(&0) {
             told.pop();
@@ -51,7 +57,7 @@ pub fn case(octets: &[u8], size: usize) -> String {
         told.extend(last);
     }
     assert!(
-        told.len() <= 1500 && left <= 0xFFFF && size <= 0xFFFF,
+        told.len() <= MOST && left <= 0xFFFF && size <= 0xFFFF,
         "a case too long"
     );
     format!("{left:04x}{size:04x}{}", hex(&told))

@@ -1,13 +1,23 @@
-// Runs the Rust on a list of cases. Arguments: the list's name; `cases` or `answers`, which part to print; the samples'
-// folder.
+// Runs the Rust on a list of cases. Arguments: `cases` or `answers`, a part of the list; the samples'
+// folder; the file to write the part to, since the Rust itself prints to standard output.
 
+mod answer;
+mod bip;
+mod bip_list;
+mod bip_readings;
+mod bip_writings;
 mod check;
-mod frame;
+mod ethernet;
+mod ethernet_list;
+mod ethernet_readings;
+mod ethernet_writings;
 mod list;
+mod mstp;
 mod mstp_checks;
 mod mstp_list;
 mod mstp_readings;
 mod mstp_writings;
+mod octets;
 mod random;
 
 // The Rust's own modules, and the stand-in for one that isn't among its files.
@@ -15,24 +25,22 @@ mod datalink;
 mod encoding;
 mod util;
 
-use std::io::Write;
 use std::path::Path;
 use std::process::ExitCode;
 
-// Prints the part of the list that the arguments name.
+use crate::list::List;
+
+// Writes the part of the list that the arguments name.
 fn main() -> ExitCode {
     let arguments: Vec<String> = std::env::args().skip(1).collect();
-    let [name, part, samples] = arguments.as_slice() else {
-        eprintln!("oracle: the driver takes a list's name, its part and the folder of samples");
+    let [part, samples, file] = arguments.as_slice() else {
+        eprintln!("oracle: the driver takes the list's part, the samples' folder and a file");
         return ExitCode::from(2);
     };
-    let list = match name.as_str() {
-        "mstp" => mstp_list::list(Path::new(samples)),
-        _ => {
-            eprintln!("oracle: no list is called {name}; there is mstp");
-            return ExitCode::from(2);
-        }
-    };
+    let mut list = List::default();
+    mstp_list::cases(&mut list, Path::new(samples));
+    bip_list::cases(&mut list);
+    ethernet_list::cases(&mut list);
     let text = match part.as_str() {
         "cases" => list.cases,
         "answers" => list.answers,
@@ -41,8 +49,8 @@ fn main() -> ExitCode {
             return ExitCode::from(2);
         }
     };
-    if let Err(error) = std::io::stdout().write_all(text.as_bytes()) {
-        eprintln!("oracle: can't print the list: {error}");
+    if let Err(error) = std::fs::write(file, text) {
+        eprintln!("oracle: can't write the list to {file}: {error}");
         return ExitCode::FAILURE;
     }
     ExitCode::SUCCESS

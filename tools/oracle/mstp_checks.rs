@@ -1,4 +1,4 @@
-// The cases of check octets.
+// The cases of MS/TP check octets.
 
 use crate::check::Rule;
 use crate::list::List;

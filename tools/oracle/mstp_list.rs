@@ -1,4 +1,4 @@
-// The list `mstp`: check octets, reading and writing of MS/TP frames. A case and its answer are a
+// The list's MS/TP part: check octets, reading and writing of frames. A case and its answer are a
 // line each:
 //
 //     HR OCTETS                    header check of five octets
@@ -20,10 +20,9 @@
 use std::path::Path;
 
 use crate::check::{try_examples, Rule};
-use crate::frame;
-use crate::list::{case, frames, List};
+use crate::list::{frames, List};
 use crate::random::Random;
-use crate::{mstp_checks, mstp_readings, mstp_writings};
+use crate::{mstp, mstp_checks, mstp_readings, mstp_writings};
 
 // Document 01's trial octets, header (type, destination, source, length) and data.
 pub const HEADER: [u8; 5] = [0x00, 0x10, 0x05, 0x00, 0x00];
@@ -33,54 +32,47 @@ pub const DATA: [u8; 3] = [0x01, 0x22, 0x30];
 pub const TOKEN: [u8; 3] = [0x00, 0x10, 0x05];
 pub const REQUEST: [u8; 3] = [0x05, 0x10, 0x05];
 
-// The whole list, the frames in the folder of samples among it.
-pub fn list(samples: &Path) -> List {
+// Adds the whole part, the frames in the folder of samples among it.
+pub fn cases(list: &mut List, samples: &Path) {
     try_examples();
     let path = samples.join("mstp-frames.txt");
     let file = match std::fs::read_to_string(&path) {
         Ok(file) => file,
         Err(error) => panic!("{}: {error}", path.display()),
     };
-    let mut list = List::default();
     let mut random = Random::new();
     for rule in [Rule::House, Rule::AnnexG] {
-        mstp_checks::cases(&mut list, rule, &mut random);
-        mstp_readings::cases(&mut list, rule, &mut random);
+        mstp_checks::cases(list, rule, &mut random);
+        mstp_readings::cases(list, rule, &mut random);
         for octets in frames(&file) {
-            reading(&mut list, rule, &octets);
+            reading(list, rule, &octets);
         }
-        mstp_writings::cases(&mut list, rule, &mut random);
+        mstp_writings::cases(list, rule, &mut random);
     }
-    list
 }
 
 // Adds the header check of five octets.
 pub fn header(list: &mut List, rule: Rule, five: [u8; 5]) {
     let check = rule.header_check(five);
     let answer = format!(" {check:02x}{check:02x}");
-    add(list, 'H', rule, case(&five, 0), &answer);
+    list.add(['H', rule.letter()], &five, 0, &answer);
 }
 
 // Adds the data check of some octets.
 pub fn data(list: &mut List, rule: Rule, octets: &[u8]) {
     let answer = format!(" {:04x}", rule.data_check(octets));
-    add(list, 'D', rule, case(octets, 0), &answer);
+    list.add(['D', rule.letter()], octets, 0, &answer);
 }
 
 // Adds the reading of some octets.
 pub fn reading(list: &mut List, rule: Rule, octets: &[u8]) {
-    let answer = frame::reading(rule, octets);
-    add(list, 'R', rule, case(octets, 0), &answer);
+    let answer = mstp::reading(rule, octets);
+    list.add(['R', rule.letter()], octets, 0, &answer);
 }
 
-// Adds the writing of type, destination, source and data into so many octets of output.
-pub fn writing(list: &mut List, rule: Rule, three: [u8; 3], data: &[u8], output: usize) {
-    let input = [&three, data].concat();
-    let answer = frame::writing(rule, three, data, output);
-    add(list, 'W', rule, case(&input, output), &answer);
-}
-
-// Adds a case of a kind.
-fn add(list: &mut List, kind: char, rule: Rule, case: String, answer: &str) {
-    list.add(format!("{kind}{}{case}", rule.letter()), answer);
+// Adds the writing of type, destination, source and data into an output of a size.
+pub fn writing(list: &mut List, rule: Rule, three: [u8; 3], data: &[u8], size: usize) {
+    let octets = [&three, data].concat();
+    let answer = mstp::writing(rule, three, data, size);
+    list.add(['W', rule.letter()], &octets, size, &answer);
 }

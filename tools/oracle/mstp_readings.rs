@@ -1,9 +1,10 @@
-// The cases of reading.
+// The cases of reading MS/TP frames.
 
 use crate::check::Rule;
-use crate::frame::written;
 use crate::list::List;
+use crate::mstp::written;
 use crate::mstp_list::{reading, DATA, REQUEST, TOKEN};
+use crate::octets::{choices, then, with, with_bits, with_each};
 use crate::random::Random;
 
 // Adds them all.
@@ -16,18 +17,6 @@ pub fn cases(list: &mut List, rule: Rule, random: &mut Random) {
     faults_together(list, rule);
     other_rule(list, rule);
     random_damage(list, rule, random);
-}
-
-// The octets with another one in a place.
-fn with(octets: &[u8], place: usize, octet: u8) -> Vec<u8> {
-    let mut changed = octets.to_vec();
-    changed[place] = octet;
-    changed
-}
-
-// The octets with more behind them.
-fn then(octets: &[u8], more: &[u8]) -> Vec<u8> {
-    [octets, more].concat()
 }
 
 // Every prefix of a good token and of a good data frame; under the house rule all single octets.
@@ -47,20 +36,12 @@ fn short_inputs(list: &mut List, rule: Rule) {
 // One octet changed: of a token to every value, of a data frame by each bit, to 00 and to FF.
 fn single_changes(list: &mut List, rule: Rule) {
     let token = written(rule, TOKEN, &[]);
-    for place in 0..token.len() {
-        for octet in 0..=255 {
-            reading(list, rule, &with(&token, place, octet));
-        }
+    for changed in with_each(&token, 0..token.len()) {
+        reading(list, rule, &changed);
     }
     let request = written(rule, REQUEST, &DATA);
-    for place in 0..request.len() {
-        for bit in 0..8 {
-            let octet = request[place] ^ (1 << bit);
-            reading(list, rule, &with(&request, place, octet));
-        }
-        for octet in [0x00, 0xFF] {
-            reading(list, rule, &with(&request, place, octet));
-        }
+    for changed in with_bits(&request, 0..request.len()) {
+        reading(list, rule, &changed);
     }
 }
 
@@ -117,17 +98,16 @@ fn sizes(list: &mut List, rule: Rule) {
 
 // Every choice of six faults in a data frame, whole and cut to 7 octets: the questions' order.
 fn faults_together(list: &mut List, rule: Rule) {
-    for faults in 0..64 {
-        let has = |fault: u32| (faults >> fault) & 1 == 1;
-        let kind = if has(0) { 0x08 } else { 0x05 };
+    for [kind, preamble, header, data, shorter, longer] in choices() {
+        let kind = if kind { 0x08 } else { 0x05 };
         let mut octets = written(rule, [kind, 0x10, 0x05], &DATA);
-        octets[1] ^= u8::from(has(1));
-        octets[7] ^= u8::from(has(2));
-        octets[8] ^= u8::from(has(3));
-        if has(4) {
+        octets[1] ^= u8::from(preamble);
+        octets[7] ^= u8::from(header);
+        octets[8] ^= u8::from(data);
+        if shorter {
             octets.pop();
         }
-        if has(5) {
+        if longer {
             octets.push(0x00);
         }
         reading(list, rule, &octets);
@@ -153,10 +133,7 @@ fn random_damage(list: &mut List, rule: Rule, random: &mut Random) {
         let three = [random.octet() % 8, random.octet(), random.octet()];
         let length = random.below(41);
         let mut octets = written(rule, three, &random.octets(length));
-        for _ in 0..1 + random.below(3) {
-            let place = random.below(octets.len());
-            octets[place] ^= 1 + random.below(255) as u8;
-        }
+        random.damage(&mut octets);
         reading(list, rule, &octets);
     }
 }

@@ -1,8 +1,8 @@
-// The cases of writing.
+// The cases of writing MS/TP frames.
 
 use crate::check::Rule;
-use crate::frame::size;
 use crate::list::List;
+use crate::mstp::size;
 use crate::mstp_list::{writing, DATA, REQUEST, TOKEN};
 use crate::random::Random;
 

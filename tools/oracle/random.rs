@@ -35,4 +35,12 @@ impl Random {
         octets.resize(count, 0);
         octets
     }
+
+    // Changes one to three octets.
+    pub fn damage(&mut self, octets: &mut [u8]) {
+        for _ in 0..1 + self.below(3) {
+            let place = self.below(octets.len());
+            octets[place] ^= 1 + self.below(255) as u8;
+        }
+    }
 }

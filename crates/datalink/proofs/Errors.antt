@@ -1,27 +1,45 @@
 -- The cases of the Rust's error for a question.
 -- Assumes nothing.
 use mathlib.Core.Path.{_≡_}
+use mathlib.Core.Bool.{true, false}
 use mathlib.Core.Logic.{_⊎_, inl, inr}
 use Prim.Native.Nat.{ℕ, _≤_, _<_}
-use native.Mathlib.Omega.{arith}
 use borrow.Author.Tests.{ne-eqb, le-leb, lt-leb}
+use lib.Dec.{leb}
 use Rattle.datalink.specs.declared.DataLinkError.the-variants.{InvalidFrame, CrcError, Unmatched}
-use Rattle.datalink.specs.Error.{errorOf}
+use Rattle.datalink.specs.Error.{between, asked, errorOf}
 
-pub error-none : (q : ℕ) → q ≡ 0 → Unmatched ≡ errorOf q
+pub before-first : (first last q : ℕ) → q < first → false ≡ between first last q
+unfolding between
+before-first first last q h = rw (lt-leb first q h)
+
+pub from-first : (first last q : ℕ) → first ≤ q → leb q last ≡ between first last q
+unfolding between
+from-first first last q h = rw (le-leb first q h)
+
+-- the three ranges, one after another
+pub asked-mstp : (q : ℕ) → between 1 7 q ≡ true → true ≡ asked q
+unfolding asked
+asked-mstp q e = rw e
+
+pub asked-bvlc : (q : ℕ) → between 1 7 q ≡ false → between 11 15 q ≡ true → true ≡ asked q
+unfolding asked
+asked-bvlc q e f = rw (e, f)
+
+pub asked-ethernet : (q : ℕ) → between 1 7 q ≡ false → between 11 15 q ≡ false → between 21 24 q ≡ asked q
+unfolding asked
+asked-ethernet q e f = rw (e, f)
+
+-- the error
+pub error-none : (q : ℕ) → asked q ≡ false → Unmatched ≡ errorOf q
 unfolding errorOf
 error-none q e = rw e
 
-pub error-beyond : (q : ℕ) → 7 < q → Unmatched ≡ errorOf q
+pub error-crc : (q : ℕ) → asked q ≡ true → (q ≡ 4) ⊎ (q ≡ 6) → CrcError ≡ errorOf q
 unfolding errorOf
-error-beyond q h = rw (le-leb 1 q (omega arith), lt-leb q 7 h)
+error-crc q a (inl e) = rw (a, e)
+error-crc q a (inr e) = rw (a, e)
 
-pub error-crc : (q : ℕ) → (q ≡ 4) ⊎ (q ≡ 6) → CrcError ≡ errorOf q
+pub error-invalid : (q : ℕ) → asked q ≡ true → ((q ≡ 4) ⊎ (q ≡ 6) → ⊥) → InvalidFrame ≡ errorOf q
 unfolding errorOf
-error-crc q (inl e) = rw e
-error-crc q (inr e) = rw e
-
-pub error-invalid : (q : ℕ) → 1 ≤ q → q ≤ 7 → ((q ≡ 4) ⊎ (q ≡ 6) → ⊥) → InvalidFrame ≡ errorOf q
-unfolding errorOf
-error-invalid q h k other =
-    rw (le-leb 1 q h, le-leb q 7 k, ne-eqb q 4 (λ e. other (inl e)), ne-eqb q 6 (λ e. other (inr e)))
+error-invalid q a other = rw (a, ne-eqb q 4 (λ e. other (inl e)), ne-eqb q 6 (λ e. other (inr e)))

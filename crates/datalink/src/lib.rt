@@ -1,9 +1,6 @@
 // The errors of the data links: datalink/mod.rs.
 ghost use mathlib.Core.Path.{_≡_};
-ghost use Rattle.datalink.specs.Error.{errorOf};
-
-// The last question that the Rust asks too.
-const LAST_QUESTION: u8 = 7;
+ghost use Rattle.datalink.specs.Error.{between, asked, errorOf};
 
 // The Rust's error for a question.
 pub enum DataLinkError {
@@ -13,14 +10,34 @@ pub enum DataLinkError {
     Unmatched,
 }
 
+// Whether a question's number is one from a first to a last.
+fn between(first: u8, last: u8, question: u8) -> bool
+    ensures { λ r. ⌜ r ≡ between first last question ⌝ }
+{
+    if question < first {
+        return false;
+    }
+    question <= last
+}
+
+// Whether the Rust asks a question too: of MS/TP, of BVLC messages, of Ethernet.
+fn asked(question: u8) -> bool
+    ensures { λ r. ⌜ r ≡ asked question ⌝ }
+{
+    if between(1, 7, question) {
+        return true;
+    }
+    if between(11, 15, question) {
+        return true;
+    }
+    between(21, 24, question)
+}
+
 // The Rust's error for a question's number.
 pub fn data_link_error(question: u8) -> DataLinkError
     ensures { λ r. ⌜ r ≡ errorOf question ⌝ }
 {
-    if question == 0 {
-        return DataLinkError::Unmatched;
-    }
-    if LAST_QUESTION < question {
+    if !asked(question) {
         return DataLinkError::Unmatched;
     }
     match question {

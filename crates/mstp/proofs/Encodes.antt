@@ -1,6 +1,6 @@
 -- The writer's parts and returns: what the stores leave in the lent output.
 -- Assumes nothing.
-use mathlib.Core.Path.{_≡_, refl, sym, ap, ap₂, _∙_}
+use mathlib.Core.Path.{_≡_, refl, sym, ap, _∙_}
 use mathlib.Core.List.{List, [], _∷_, _++_}
 use Prim.Native.Nat.{ℕ, _+_, _-_, _/_, _%_, _≤_, _<_}
 use native.Mathlib.Numerals.{add-one}
@@ -8,22 +8,20 @@ use native.Mathlib.Omega.{arith}
 use borrow.Author.Tests.{le-leb, lt-leb}
 use borrow.Rule.Slice.PartMut.{putMid}
 use lib.ListN.{length, take, drop, set, length-drop}
-use lib.Seq.{sets, take-length}
+use lib.Seq.{take-length}
 use Rattle.octets.specs.Number.{highFirst, lowFirst}
 use Rattle.octets.specs.Output.{atFront}
 use Rattle.octets.specs.declared.Written.{Written}
 use Rattle.octets.specs.declared.Written.the-variants.{Count, Refused}
-use Rattle.octets.proofs.Outputs.{take-front, length-front, front-sets, front-rest, front-part, refuses, writes}
+use Rattle.octets.proofs.Outputs.{in-front, none-in-front, length-front, front-sets, front-rest, front-part, refuses, writes}
 use Rattle.octets.proofs.Questions.{passed, failed, none-fails}
 use Rattle.crc.specs.Rule.{headerCheck, dataCheck}
 use Rattle.crc.specs.declared.CheckRule.{CheckRule}
 use Rattle.mstp_frame.specs.declared.MstpFrameType.{MstpFrameType}
-use Rattle.mstp_decode.specs.declared.MstpDecoded.the-variants.{Frame}
-use Rattle.mstp_decode.specs.Decode.{decode, frameData}
 use Rattle.mstp.specs.Encode.{encodeQuestions, encodeQuestion, encodeAnswer, encodeOutput}
 use Rattle.mstp_frame.specs.Frame.{headerFields, headerOctets, dataOctets, encodeFrame, frameSize}
 use Rattle.mstp_frame.specs.FrameType.{typeNumber}
-use Rattle.mstp_decode.specs.RoundTrip.{newHeader, ReadsBack}
+use Rattle.mstp_decode.specs.RoundTrip.{GivesBack, ReadsBack}
 use Rattle.mstp_decode.proofs.ReadsBack.{decode-back, data-back}
 use Rattle.mstp_frame.proofs.Sizes.{size-least, size-some, data-size, encoded-size}
 
@@ -79,7 +77,7 @@ module _ (rule : CheckRule) (t : MstpFrameType) (destination source : ℕ) (body
   unfolding encodeAnswer encodeOutput
   refused e fails =
       let w = refuses frame out e fails in
-      (w .0, (w .1, λ n same. let z : _≡_ {A = ℕ} 0 1 = cc in absurd (omega arith)))
+      (w .0, (w .1, none-in-front (GivesBack rule t destination source body) out))
 
   pub too-long : 501 < length body → Encoded (Refused 7) out
   unfolding encodeQuestion encodeQuestions
@@ -106,14 +104,10 @@ module _ (rule : CheckRule) (t : MstpFrameType) (destination source : ℕ) (body
       unfolding encodeAnswer encodeOutput
       written {l} front =
           let w = writes frame out none (sym frame-size-is) front in
-          (w .0, (w .1, λ n same. back n cc))
+          (w .0, (w .1, in-front (GivesBack rule t destination source body) frame out back (sym frame-size-is) front))
         where
-          back : (n : ℕ) → n ≡ size
-              → (decode rule (take n l) ≡ Frame (newHeader rule t destination source body)) × (frameData rule (take n l) ≡ body)
-          back n e =
-              let octets : take n l ≡ frame
-              = ap₂ (λ (k : ℕ) (s : List ℕ). take k s) (e ∙ sym frame-size-is) front ∙ take-front frame out in
-              rw octets (decode-back rule t destination source body, data-back rule t destination source body)
+          back : GivesBack rule t destination source body frame
+          back = (decode-back rule t destination source body, data-back rule t destination source body)
 
       module _ {l : List ℕ} (header : l ≡ atFront (headerOctets rule (headerFields t destination source (length body))) out) where
         header-fits : 8 ≤ length out

@@ -5,7 +5,7 @@ use mathlib.Core.List.{List, []}
 use Prim.Native.Nat.{ℕ, zero, suc, _+_, _-_, _≤_, _<_, _^_}
 use native.Mathlib.Omega.{arith}
 use lib.ListN.{length, getD, take, drop}
-use Rattle.octets.proofs.Questions.{answered-value, answered-refused}
+use Rattle.octets.proofs.Questions.{refusal, acceptance}
 use Rattle.crc.specs.declared.CheckRule.{CheckRule}
 use Rattle.mstp_decode.specs.declared.MstpHeader.{MstpHeader}
 use Rattle.mstp_decode.specs.declared.MstpDecoded.{MstpDecoded}
@@ -31,41 +31,35 @@ module _ (rule : CheckRule) (s : List ℕ) where
   data-of e = (e, λ t destination source body written. e ∙ ap (λ (l : List ℕ). frameData rule l) written ∙ data-back rule t destination source body)
 
   module _ {q : ℕ} (asked : q ≡ decodeQuestion rule s) (fails : q ≡ 0 → ⊥) where
-    fails-here : decodeQuestion rule s ≡ 0 → ⊥
-    fails-here e = fails (asked ∙ e)
-
     pub decode-refused : Decoded (Refused q)
     unfolding decode
     decode-refused = (
-      ap Refused asked ∙ sym (answered-refused Refused (Frame (headerOf s)) (decodeQuestion rule s) fails-here),
+      refusal Refused (Frame (headerOf s)) asked fails,
       λ header e. let z : _≡_ {A = ℕ} 0 1 = cc in absurd (omega arith),
     )
 
     pub data-refused : Data []
     unfolding frameData
-    data-refused = data-of (sym (answered-refused (λ _. []) (dataPart s) (decodeQuestion rule s) fails-here))
+    data-refused = data-of (refusal (λ _. []) (dataPart s) asked fails)
 
   module _ {q : ℕ} (asked : q ≡ decodeQuestion rule s) (passes : q ≡ 0) where
-    none : decodeQuestion rule s ≡ 0
-    none = sym asked ∙ passes
-
     pub facts : Accepted rule s
-    facts = accepted rule s none
+    facts = accepted rule s (sym asked ∙ passes)
 
-    part-is : frameData rule s ≡ dataPart s
+    part-is : dataPart s ≡ frameData rule s
     unfolding frameData
-    part-is = answered-value (λ _. []) (dataPart s) none
+    part-is = acceptance (λ _. []) (dataPart s) asked passes
 
     pub decode-accepted : {header : MstpHeader} → ((i : ℕ) → getD s i 0 < 2 ^ 8) → header ≡ headerOf s → Decoded (Frame header)
     unfolding decode headerOf
     decode-accepted {header} octets e = (
-      ap Frame e ∙ sym (answered-value Refused (Frame (headerOf s)) none),
+      ap Frame e ∙ acceptance Refused (Frame (headerOf s)) asked passes,
       λ other same. back other cc,
     )
       where
         back : (other : MstpHeader) → other ≡ headerOf s
             → s ≡ encodeFrame rule (other .«frame_type») (other .destination) (other .source) (frameData rule s)
-        back other f = rw (f, part-is) (written-back rule s octets facts)
+        back other f = rw (f, ← part-is) (written-back rule s octets facts)
 
     -- the data end within the frame
     pub data-end : 8 + dataLength s ≤ length s
@@ -77,7 +71,7 @@ module _ (rule : CheckRule) (s : List ℕ) where
 
     pub data-accepted : {n : ℕ} → n ≡ dataLength s → Data (take (8 + n - 8) (drop 8 s))
     unfolding dataPart
-    data-accepted {n} e = data-of (ap (λ (k : ℕ). take k (drop 8 s)) counted ∙ sym part-is)
+    data-accepted {n} e = data-of (ap (λ (k : ℕ). take k (drop 8 s)) counted ∙ part-is)
       where
         counted : 8 + n - 8 ≡ dataLength s
         counted = omega (arith, e)

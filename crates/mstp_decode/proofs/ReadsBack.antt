@@ -4,14 +4,14 @@ use mathlib.Core.Path.{_≡_, refl, sym, ap, _∙_}
 use mathlib.Core.Bool.{cond}
 use mathlib.Core.List.{List, [], _∷_}
 use Prim.Native.Nat.{ℕ, _+_, _/_, _%_, _≤_}
-use native.Mathlib.Nat.{add-comm, div-add-mod'}
+use native.Mathlib.Nat.{add-comm}
 use native.Mathlib.Omega.{arith}
-use borrow.Author.Tests.{ne-eqb}
+use borrow.Author.Tests.{ne-eqb, leb-true}
 use lib.Dec.{eqb}
 use lib.ListN.{length, getD, take, drop}
 use lib.Seq.{take-append-seam, getD-append-add, getD-append-seam}
-use Rattle.octets.specs.Number.{number, lowFirst}
-use Rattle.octets.specs.Question.{answered}
+use Rattle.octets.specs.Number.{lowFirst}
+use Rattle.octets.proofs.Numbers.{number-of}
 use Rattle.octets.proofs.Questions.{answered-value}
 use Rattle.crc.specs.Rule.{headerCheck, dataCheck}
 use Rattle.crc.specs.declared.CheckRule.{CheckRule}
@@ -20,9 +20,10 @@ use Rattle.mstp_decode.specs.declared.DataCrc.the-variants.{Present, Abs
 use Rattle.mstp_decode.specs.declared.MstpDecoded.the-variants.{Frame, Refused}
 use Rattle.mstp_decode.specs.Decode.{dataLength, dataPart, dataCheckSent, decodeQuestion, dataCrcOf, headerOf, decode, frameData}
 use Rattle.mstp_frame.specs.Frame.{headerFields, headerOctets, dataOctets, encodeFrame, frameSize}
+use Rattle.mstp_frame.specs.FrameType.{typeNumber}
 use Rattle.mstp_decode.specs.RoundTrip.{newDataCrc, newHeader}
 use Rattle.mstp_decode.proofs.Accepted.{accepts}
-use Rattle.mstp_frame.proofs.FrameTypes.{type-back, type-number-small}
+use Rattle.mstp_frame.proofs.FrameTypes.{type-back}
 use Rattle.mstp_frame.proofs.Sizes.{size-least, encoded-size}
 
 -- the data stand in front of their check
@@ -46,7 +47,7 @@ module _ (rule : CheckRule) (t : MstpFrameType) (destination source : ℕ) (body
 
   length-back : dataLength frame ≡ length body
   unfolding dataLength encodeFrame
-  length-back = div-add-mod' (length body) 256
+  length-back = number-of (length body)
 
   part-back : dataPart frame ≡ body
   unfolding dataPart encodeFrame
@@ -66,7 +67,7 @@ module _ (rule : CheckRule) (t : MstpFrameType) (destination source : ℕ) (body
       let high : getD frame (length body + 9) 0 ≡ check / 256
       = ap (λ (k : ℕ). getD frame k 0) (nine (length body)) ∙ behind (length body + 1) ∙ high-behind rule body some in
       let low : getD frame (length body + 8) 0 ≡ check % 256 = behind (length body) ∙ low-behind rule body some in
-      rw (length-back, high, low) (div-add-mod' check 256)
+      rw (length-back, high, low) (number-of check)
     where
       nine : (n : ℕ) → n + 9 ≡ n + 1 + 8
       nine n = omega arith
@@ -90,7 +91,7 @@ module _ (rule : CheckRule) (t : MstpFrameType) (destination source : ℕ) (body
       second-back = refl
 
       known-back : getD frame 2 0 ≤ 7
-      known-back = type-number-small t
+      known-back = leb-true (typeNumber t) 7 (type-back t .0)
 
       header-back : headerCheck rule (take 5 (drop 2 frame)) ≡ getD frame 7 0
       header-back = refl
@@ -108,7 +109,7 @@ module _ (rule : CheckRule) (t : MstpFrameType) (destination source : ℕ) (body
   -- the header that is read is the one that was written
   pub header-back : headerOf frame ≡ newHeader rule t destination source body
   unfolding headerOf newHeader encodeFrame
-  header-back = rw (crc-back, length-back, type-back t)
+  header-back = rw (crc-back, length-back, type-back t .1)
 
   pub decode-back : decode rule frame ≡ Frame (newHeader rule t destination source body)
   unfolding decode

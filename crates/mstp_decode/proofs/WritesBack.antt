@@ -5,8 +5,10 @@ use mathlib.Core.List.{List, [], _∷_, _++_}
 use Prim.Native.Nat.{ℕ, zero, suc, _+_, _-_, _/_, _%_, _^_, _≤_, _<_}
 use native.Mathlib.Omega.{arith}
 use lib.ListN.{length, getD, take, drop, length-drop, take-append-drop}
-use lib.Seq.{drop-cons, getD-drop, length-take-le}
-use Rattle.octets.specs.Number.{number, lowFirst}
+use lib.Seq.{getD-drop, length-take-le}
+use Rattle.octets.specs.Number.{lowFirst}
+use Rattle.octets.proofs.Numbers.{high-is, low-is}
+use Rattle.octets.proofs.Parts.{all-is, none-is, front-is}
 use Rattle.crc.specs.Rule.{dataCheck}
 use Rattle.crc.specs.declared.CheckRule.{CheckRule}
 use Rattle.mstp_decode.specs.Decode.{dataLength, dataPart, dataCheckSent}
@@ -15,37 +17,6 @@ use Rattle.mstp_frame.specs.FrameType.{typeNumber, typeOf}
 use Rattle.mstp_decode.proofs.Accepted.{Accepted}
 use Rattle.mstp_frame.proofs.FrameTypes.{number-back}
 use Rattle.mstp_frame.proofs.Sizes.{size-none, size-some}
-
--- a list of no element, and of two
-none : (l : List ℕ) → length l ≡ 0 → l ≡ []
-none [] h = refl
-none (a ∷ l) h = absurd (omega arith)
-
-two : (l : List ℕ) → length l ≡ 2 → l ≡ getD l 0 0 ∷ getD l 1 0 ∷ []
-two [] h = absurd (omega arith)
-two (a ∷ []) h = absurd (omega arith)
-two (a ∷ b ∷ []) h = refl
-two (a ∷ b ∷ c ∷ l) h = absurd (omega arith)
-
--- a number's two octets, from the octets that made it
-high-is : (high low : ℕ) → low < 256 → number high low / 256 ≡ high
-high-is high low h = omega arith
-
-low-is : (high low : ℕ) → low < 256 → number high low % 256 ≡ low
-low-is high low h = omega arith
-
--- the first eight octets of a list, and the rest
-eight : (s : List ℕ) → 8 ≤ length s
-    → s
-    ≡ getD s 0 0 ∷ getD s 1 0 ∷ getD s 2 0 ∷ getD s 3 0 ∷ getD s 4 0 ∷ getD s 5 0 ∷ getD s 6 0 ∷ getD s 7 0 ∷ drop 8 s
-eight s h =
-    next 0 (omega arith)
-    (next 1 (omega arith)
-    (next 2 (omega arith)
-    (next 3 (omega arith) (next 4 (omega arith) (next 5 (omega arith) (next 6 (omega arith) (next 7 (omega arith) refl)))))))
-  where
-    next : (i : ℕ) {l : List ℕ} → i < 8 → drop (suc i) s ≡ l → drop i s ≡ getD s i 0 ∷ l
-    next i less e = drop-cons s i 0 (omega arith) ∙ ap (λ (k : List ℕ). getD s i 0 ∷ k) e
 
 module _ (rule : CheckRule) (s : List ℕ) (octets : (i : ℕ) → getD s i 0 < 2 ^ 8) (a : Accepted rule s) where
   abbrev n : ℕ
@@ -66,7 +37,7 @@ module _ (rule : CheckRule) (s : List ℕ) (octets : (i : ℕ) → getD s i 0 < 
       let sent = a .body some in
       let low : getD (drop n (drop 8 s)) 0 0 ≡ getD s (n + 8) 0 = at 0 (n + 8) (omega arith) in
       let high : getD (drop n (drop 8 s)) 1 0 ≡ getD s (n + 9) 0 = at 1 (n + 9) (omega arith) in
-      two (drop n (drop 8 s)) (omega (arith, length-drop n (drop 8 s), length-drop 8 s, a .size, size-some n some))
+      all-is 2 (drop n (drop 8 s)) (omega (arith, length-drop n (drop 8 s), length-drop 8 s, a .size, size-some n some))
       ∙ rw (sent, low, high, high-is (getD s (n + 9) 0) (getD s (n + 8) 0) (octets (n + 8)), low-is (getD s (n + 9) 0) (getD s (n + 8) 0) (octets (n + 8)))
     where
       at : (i k : ℕ) → 8 + (n + i) ≡ k → getD (drop n (drop 8 s)) i 0 ≡ getD s k 0
@@ -83,7 +54,7 @@ module _ (rule : CheckRule) (s : List ℕ) (octets : (i : ℕ) → getD s i 0 < 
       by : (part : List ℕ) → part ≡ dataPart s → drop 8 s ≡ dataOctets rule part
       by [] e =
           let z : n ≡ 0 = omega (arith, ap length e, part-size) in
-          none (drop 8 s) (omega (arith, length-drop 8 s, a .size, size-none z))
+          none-is (drop 8 s) (omega (arith, length-drop 8 s, a .size, size-none z))
       by (b ∷ part) e =
           let some : n ≡ 0 → ⊥ = λ z. omega (arith, ap length e, part-size) in
           sym whole ∙ ap₂ (λ (x y : List ℕ). x ++ y) (sym e) (check-behind some ∙ ap (λ (l : List ℕ). lowFirst (dataCheck rule l)) (sym e))
@@ -103,9 +74,9 @@ module _ (rule : CheckRule) (s : List ℕ) (octets : (i : ℕ) → getD s i 0 < 
       let t2 : typeNumber (typeOf (getD s 2 0)) ≡ getD s 2 0 = number-back (getD s 2 0) (a .known) in
       let h5 : length (dataPart s) / 256 ≡ getD s 5 0 = ap (λ (k : ℕ). k / 256) part-size ∙ length-high in
       let h6 : length (dataPart s) % 256 ≡ getD s 6 0 = ap (λ (k : ℕ). k % 256) part-size ∙ length-low in
-      let fields = ap (λ (l : List ℕ). take 5 (drop 2 l)) (eight s (a .long)) in
+      let fields = ap (λ (l : List ℕ). take 5 (drop 2 l)) (front-is 8 s (a .long)) in
       let e0 = a .first in
       let e1 = a .second in
       let e7 = a .header in
       let r = rest-is in
-      cc (eight s (a .long))
+      cc (front-is 8 s (a .long))

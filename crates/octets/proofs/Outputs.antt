@@ -1,14 +1,13 @@
 -- Laws of what a writer answers and leaves in the lent output.
 -- Assumes nothing.
-use mathlib.Core.Path.{_≡_, refl, sym, ap, ap₂, _∙_}
+use mathlib.Core.Path.{_≡_, refl, sym, ap, ap₂, subst, _∙_}
 use mathlib.Core.List.{List, _++_, append-assoc, append-nil}
 use Prim.Native.Nat.{ℕ, _+_, _-_, _≤_}
 use native.Mathlib.Omega.{arith}
 use borrow.Rule.Slice.PartMut.{putMid}
 use lib.ListN.{length, take, drop, length-append, length-drop, drop-of-length-le}
 use lib.Seq.{take-all, take-at, drop-at, drop-drop, drop-append-add, sets, sets-eq}
-use Rattle.octets.specs.Question.{answered}
-use Rattle.octets.specs.Output.{atFront, writeAnswer, writeOutput}
+use Rattle.octets.specs.Output.{atFront, writeAnswer, writeOutput, InFront}
 use Rattle.octets.specs.declared.Written.{Written}
 use Rattle.octets.specs.declared.Written.the-variants.{Count, Refused}
 use Rattle.octets.proofs.Questions.{answered-value, answered-refused}
@@ -44,6 +43,14 @@ pub writes : {q : ℕ} (xs out : List ℕ) {n : ℕ} {l : List ℕ} → q ≡ 0 
 unfolding writeAnswer writeOutput
 writes {q} xs out none count front =
     (ap Count count ∙ sym (answered-value Refused (Count (length xs)) none), front ∙ sym (answered-value (λ _. out) (atFront xs out) none))
+
+-- what holds of the octets written holds of those that the answer counts; a refusal counts none
+pub in-front : (P : List ℕ → Type 0) (xs out : List ℕ) {n : ℕ} {l : List ℕ} → P xs → n ≡ length xs → l ≡ atFront xs out → InFront P (Count n) l
+in-front P xs out {n} {l} holds count front k same =
+    let e : k ≡ n = cc in subst P (sym (ap₂ (λ (i : ℕ) (s : List ℕ). take i s) (e ∙ count) front ∙ take-front xs out)) holds
+
+pub none-in-front : (P : List ℕ → Type 0) {q : ℕ} (l : List ℕ) → InFront P (Refused q) l
+none-in-front P l n same = let z : _≡_ {A = ℕ} 0 1 = cc in absurd (omega arith)
 
 -- a literal list stored behind a list at the front
 pub front-sets : (xs ys out : List ℕ) {l : List ℕ} {n : ℕ} → l ≡ atFront xs out → n ≡ length xs → length xs + length ys ≤ length out

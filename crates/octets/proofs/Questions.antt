@@ -1,8 +1,8 @@
 -- Laws of the first question that fails: a proof of a reader or a writer goes through them.
 -- Assumes nothing.
-use mathlib.Core.Path.{_≡_, refl}
+use mathlib.Core.Path.{_≡_, refl, sym, ap, _∙_}
 use mathlib.Core.Bool.{Bool, true, false}
-use mathlib.Core.List.{List, [], _∷_}
+use mathlib.Core.List.{List, [], _∷_, _++_}
 use Prim.Native.Nat.{ℕ, zero, suc}
 use native.Mathlib.Omega.{arith}
 use Rattle.octets.specs.Question.{Question, ask, firstNo, answered}
@@ -17,6 +17,11 @@ passed number questions e p = rw e p
 pub failed : (number : ℕ) {holds : Bool} (questions : List Question) → holds ≡ false → number ≡ firstNo (ask number holds ∷ questions)
 unfolding firstNo
 failed number questions e = rw e
+
+-- behind the last question none fails
+pub ended : 0 ≡ firstNo []
+unfolding firstNo
+ended = refl
 
 -- all answers are yes
 abbrev pub AllYes : List Question → Type 0
@@ -43,6 +48,20 @@ unfolding firstNo
 none-fails [] all = refl
 none-fails (ask number holds ∷ questions) all = rw (all .0) (none-fails questions (all .1))
 
+-- of two lists, the first decides where one of its questions fails, else the second
+pub fails-before : (first second : List Question) → (firstNo first ≡ 0 → ⊥) → firstNo first ≡ firstNo (first ++ second)
+unfolding firstNo
+fails-before [] second fails = absurd (fails refl)
+fails-before (ask number true ∷ first) second fails = fails-before first second fails
+fails-before (ask number false ∷ first) second fails = refl
+
+pub passes-before : (first second : List Question) → Numbered first → firstNo first ≡ 0 → firstNo second ≡ firstNo (first ++ second)
+unfolding firstNo
+passes-before [] second numbered none = refl
+passes-before (ask zero holds ∷ first) second numbered none = absurd numbered
+passes-before (ask (suc n) true ∷ first) second numbered none = passes-before first second numbered none
+passes-before (ask (suc n) false ∷ first) second numbered none = absurd (omega arith)
+
 -- the answer where no question failed, and where one did
 pub answered-value : {A : Type 0} (refused : ℕ → A) (value : A) {q : ℕ} → q ≡ 0 → answered refused q value ≡ value
 unfolding answered
@@ -52,3 +71,11 @@ pub answered-refused : {A : Type 0} (refused : ℕ → A) (value : A) (q : ℕ) 
 unfolding answered
 answered-refused refused value zero some = absurd (some refl)
 answered-refused refused value (suc q) some = refl
+
+-- the same from a number that was found to be the first question's
+module _ {A : Type 0} (refused : ℕ → A) (value : A) {q question : ℕ} (asked : q ≡ question) where
+  pub refusal : (q ≡ 0 → ⊥) → refused q ≡ answered refused question value
+  refusal fails = ap refused asked ∙ sym (answered-refused refused value question (λ none. fails (asked ∙ none)))
+
+  pub acceptance : q ≡ 0 → value ≡ answered refused question value
+  acceptance passes = sym (answered-value refused value (sym asked ∙ passes))

@@ -1,16 +1,11 @@
 -- `mstp_frame::type_of` meets its contract: each arm is an entry of the list of types.
 -- Assumes nothing.
-use mathlib.Core.Path.{_≡_}
-use Prim.Native.Nat.{ℕ, suc, _≤_, zero-le}
-use native.Mathlib.Omega.{arith}
+use Prim.Native.Nat.{zero-le}
+use Rattle.octets.proofs.Cases.{next}
 use Rattle.mstp_frame.specs.FrameType.{typeOf}
 use Rattle.mstp_frame.proofs.FrameTypes.{type-last}
 use Rattle.mstp_frame.proofs.type_of.Statement.{statement}
 use Rattle.mstp_frame.proofs.type_of.Tie as tie
-
--- one more number that it is not
-next : {k n : ℕ} → k ≤ n → (n ≡ k → ⊥) → suc k ≤ n
-next h other = omega arith
 
 returns : tie.Need-returns
 unfolding typeOf

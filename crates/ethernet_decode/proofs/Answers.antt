@@ -1,0 +1,103 @@
+-- What reading and validating answer, with what each promises.
+-- Assumes nothing.
+use mathlib.Core.Path.{_≡_, refl, sym, ap, _∙_}
+use mathlib.Core.List.{List, []}
+use Prim.Native.Nat.{ℕ, zero, suc, _-_, _≤_, _<_, _^_}
+use native.Mathlib.Omega.{arith}
+use borrow.Author.Tests.{le-leb, leb-true}
+use lib.ListN.{length, getD, take, drop, length-drop}
+use lib.Seq.{take-all}
+use Rattle.octets.specs.Question.{firstNo, answered}
+use Rattle.octets.proofs.Questions.{all-yes, none-fails, answered-value, refusal, acceptance}
+use Rattle.ethernet_decode.specs.declared.EthernetResult.{EthernetResult}
+use Rattle.ethernet_decode.specs.declared.EthernetResult.the-variants.{Refused}
+use Rattle.ethernet_decode.specs.declared.EthernetResult.the-variants.{Accepted as Yes}
+use Rattle.ethernet_decode.specs.declared.EthernetDecoded.{EthernetDecoded}
+use Rattle.ethernet_decode.specs.Frame.{bacnetType, unpadded}
+use Rattle.ethernet_decode.specs.Decode.{destinationOf, sourceOf, headerQuestions, decodeQuestions, decodeQuestion, accepted, refused, decode, payload, validateQuestions, validate}
+use Rattle.ethernet_decode.specs.RoundTrip.{WritesBack, PayloadOf, Agrees}
+use Rattle.ethernet_decode.proofs.Frames.{Accepted, facts, laid-out, payload-back}
+
+module _ (s : List ℕ) where
+  abbrev value : EthernetDecoded
+  value = accepted (destinationOf s) (sourceOf s)
+
+  -- the answer of reading, and what it promises
+  abbrev Decoded : EthernetDecoded → Type 0
+  Decoded answer = (answer ≡ decode s) × WritesBack s answer
+
+  -- the payload, and what it promises
+  abbrev Payload : List ℕ → Type 0
+  Payload part = (part ≡ payload s) × PayloadOf s part
+
+  payload-of : {part : List ℕ} → part ≡ payload s → Payload part
+  payload-of e = (e, λ d f body hd hf is. e ∙ ap payload is ∙ payload-back d f body hd hf)
+
+  module _ {q : ℕ} (asked : q ≡ decodeQuestion s) where
+    pub decode-refused : (q ≡ 0 → ⊥) → Decoded (refused q)
+    unfolding decode
+    decode-refused fails = (refusal refused value asked fails, λ e. let z : _≡_ {A = ℕ} 0 1 = cc in absurd (omega arith))
+
+    pub payload-refused : (q ≡ 0 → ⊥) → Payload []
+    unfolding payload
+    payload-refused fails = payload-of (refusal (λ _. []) (drop 17 s) asked fails)
+
+    pub passed : q ≡ 0 → Accepted s
+    passed passes = facts s (sym asked ∙ passes)
+
+    pub payload-accepted : q ≡ 0 → Payload (take (length s - 17) (drop 17 s))
+    unfolding payload
+    payload-accepted passes =
+        payload-of
+        (take-all (length s - 17) (drop 17 s) (omega (arith, length-drop 17 s)) ∙ acceptance (λ _. []) (drop 17 s) asked passes)
+
+    pub decode-accepted : q ≡ 0 → ((i : ℕ) → getD s i 0 < 2 ^ 8) → {d f : List ℕ} → d ≡ take 6 (drop 0 s) → f ≡ take 6 (drop 6 s)
+        → Decoded (accepted d f)
+    unfolding decode payload
+    decode-accepted passes octets {d} {f} ed ef =
+        (rw (ed, ef) (acceptance refused value asked passes), λ e. whole)
+      where
+        whole : s ≡ unpadded bacnetType d f (payload s)
+        whole = rw (ed, ef, ← (acceptance (λ _. []) (drop 17 s) asked passes)) (laid-out s octets (passed passes))
+
+  -- reading accepts exactly where no question fails, and so does the validator
+  accepted-none : (k : ℕ) → decodeQuestion s ≡ k → decode s .result ≡ Yes → decodeQuestion s ≡ 0
+  unfolding decode answered
+  accepted-none zero e told = e
+  accepted-none (suc k) e told = let z : _≡_ {A = ℕ} 0 1 = cc in absurd (omega arith)
+
+  none-accepted : decodeQuestion s ≡ 0 → decode s .result ≡ Yes
+  unfolding decode
+  none-accepted none = ap (λ (d : EthernetDecoded). d .result) (answered-value refused value none)
+
+  valid-none : (k : ℕ) → firstNo (validateQuestions s) ≡ k → validate s ≡ Yes → firstNo (validateQuestions s) ≡ 0
+  unfolding validate answered
+  valid-none zero e told = e
+  valid-none (suc k) e told = let z : _≡_ {A = ℕ} 0 1 = cc in absurd (omega arith)
+
+  none-valid : firstNo (validateQuestions s) ≡ 0 → validate s ≡ Yes
+  unfolding validate
+  none-valid none = answered-value Refused Yes none
+
+  -- the validator's questions are those of reading and the size
+  of-reading : firstNo (validateQuestions s) ≡ 0 → (decodeQuestion s ≡ 0) × (length s ≤ 1514)
+  unfolding validateQuestions decodeQuestion decodeQuestions headerQuestions
+  of-reading none =
+      let all = all-yes (validateQuestions s) tt none in
+      (none-fails (decodeQuestions s) (all .0, all .1 .1), leb-true (length s) 1514 (all .1 .0))
+
+  of-size : decodeQuestion s ≡ 0 → length s ≤ 1514 → firstNo (validateQuestions s) ≡ 0
+  unfolding validateQuestions decodeQuestion decodeQuestions headerQuestions
+  of-size none size =
+      let all = all-yes (decodeQuestions s) tt none in
+      none-fails (validateQuestions s) (all .0, (le-leb (length s) 1514 size, all .1))
+
+  -- the validator's answer, and what it promises
+  pub validated : {answer : EthernetResult} → answer ≡ validate s → (answer ≡ validate s) × Agrees s answer
+  validated e = (
+    e,
+    (
+      λ yes. let none = of-reading (valid-none (firstNo (validateQuestions s)) refl (sym e ∙ yes)) in (none-accepted (none .0), none .1),
+      λ both. e ∙ none-valid (of-size (accepted-none (decodeQuestion s) refl (both .0)) (both .1)),
+    ),
+  )

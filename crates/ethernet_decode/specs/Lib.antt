@@ -1,0 +1,3 @@
+pub mod Decode
+pub mod Frame
+pub mod RoundTrip
