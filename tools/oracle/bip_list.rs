@@ -17,13 +17,18 @@
 // space too, at the line's end. X is `I`, the Rust's InvalidFrame, or `N` where it has no answer, as
 // to question 16. nn is the first of document 01's questions that fails.
 
-use crate::list::List;
+use std::path::Path;
+
+use crate::list::{frames, List};
 use crate::random::Random;
 use crate::{bip, bip_readings, bip_writings};
 
-// Adds the whole part.
-pub fn cases(list: &mut List) {
+// Adds the whole part, the messages in the folder of samples among it.
+pub fn cases(list: &mut List, samples: &Path) {
     bip::try_examples();
+    for octets in frames(&samples.join("bvlc-messages.txt")) {
+        both(list, &octets);
+    }
     bip_readings::cases(list, &mut Random::new());
     bip_writings::cases(list);
 }

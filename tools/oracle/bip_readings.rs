@@ -77,10 +77,11 @@ fn times_to_live(list: &mut List) {
     }
 }
 
-// Good messages of all small sizes, and of sizes around 256.
+// Good messages of all small sizes, and of sizes around 17, 60 and 256.
 fn sizes(list: &mut List, random: &mut Random) {
+    let around = (16..=18).chain(59..=61).chain(255..=257);
     for function in SOME {
-        for size in (4..=12).chain(255..=257) {
+        for size in (4..=12).chain(around.clone()) {
             npdu(list, &message(function, &random.octets(size - 4)));
         }
     }
@@ -88,7 +89,7 @@ fn sizes(list: &mut List, random: &mut Random) {
 
 // Long messages, some longer than the Rust receives; and the length as a number of 16 bits.
 fn long_messages(list: &mut List, random: &mut Random) {
-    for size in [1497, 1500, 1501, 1514] {
+    for size in [1496, 1497, 1498, 1500, 1501, 1513, 1514, 1515] {
         npdu(list, &message(0x0A, &random.octets(size - 4)));
     }
     for function in [0x04, 0x05, 0x09] {

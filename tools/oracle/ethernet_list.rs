@@ -18,8 +18,10 @@
 // space too, at the line's end. X is `I`, the Rust's InvalidFrame, or `N` where it has no answer, as
 // to question 25. nn is the first of document 01's questions that fails.
 
+use std::path::Path;
+
 use crate::ethernet::Addresses;
-use crate::list::List;
+use crate::list::{frames, List};
 use crate::random::Random;
 use crate::{ethernet, ethernet_readings, ethernet_writings};
 
@@ -29,8 +31,11 @@ pub const STATIONS: Addresses = [
     [0x66, 0x77, 0x88, 0x99, 0xAA, 0xBB],
 ];
 
-// Adds the whole part.
-pub fn cases(list: &mut List) {
+// Adds the whole part, the frames in the folder of samples among it.
+pub fn cases(list: &mut List, samples: &Path) {
+    for octets in frames(&samples.join("ethernet-frames.txt")) {
+        both(list, &octets);
+    }
     let mut random = Random::new();
     ethernet_readings::cases(list, &mut random);
     ethernet_writings::cases(list, &mut random);

@@ -2,6 +2,7 @@
 
 use std::collections::HashSet;
 use std::fmt::Write;
+use std::path::Path;
 
 #[derive(Default)]
 pub struct List {
@@ -64,7 +65,11 @@ fn case(octets: &[u8], size: usize) -> String {
 }
 
 // The frames of a file of samples, each a line of octets with spaces between; `#` begins a comment.
-pub fn frames(file: &str) -> Vec<Vec<u8>> {
+pub fn frames(path: &Path) -> Vec<Vec<u8>> {
+    let file = match std::fs::read_to_string(path) {
+        Ok(file) => file,
+        Err(error) => panic!("{}: {error}", path.display()),
+    };
     let mut frames = Vec::new();
     for line in file.lines().filter(|line| !line.starts_with('#')) {
         frames.push(line.split(' ').map(octet).collect());

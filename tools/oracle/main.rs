@@ -38,9 +38,10 @@ fn main() -> ExitCode {
         return ExitCode::from(2);
     };
     let mut list = List::default();
-    mstp_list::cases(&mut list, Path::new(samples));
-    bip_list::cases(&mut list);
-    ethernet_list::cases(&mut list);
+    let samples = Path::new(samples);
+    mstp_list::cases(&mut list, samples);
+    bip_list::cases(&mut list, samples);
+    ethernet_list::cases(&mut list, samples);
     let text = match part.as_str() {
         "cases" => list.cases,
         "answers" => list.answers,

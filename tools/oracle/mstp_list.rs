@@ -35,17 +35,13 @@ pub const REQUEST: [u8; 3] = [0x05, 0x10, 0x05];
 // Adds the whole part, the frames in the folder of samples among it.
 pub fn cases(list: &mut List, samples: &Path) {
     try_examples();
-    let path = samples.join("mstp-frames.txt");
-    let file = match std::fs::read_to_string(&path) {
-        Ok(file) => file,
-        Err(error) => panic!("{}: {error}", path.display()),
-    };
+    let samples = frames(&samples.join("mstp-frames.txt"));
     let mut random = Random::new();
     for rule in [Rule::House, Rule::AnnexG] {
         mstp_checks::cases(list, rule, &mut random);
         mstp_readings::cases(list, rule, &mut random);
-        for octets in frames(&file) {
-            reading(list, rule, &octets);
+        for octets in &samples {
+            reading(list, rule, octets);
         }
         mstp_writings::cases(list, rule, &mut random);
     }

@@ -70,7 +70,8 @@ module _ (s : List ℕ) where
   unfolding process messageQuestion messageQuestions headerQuestion
   header-refused told =
       let t = told-refused s told in
-      let before = fails-before (headerQuestions s) (questionsBehind (messageLength s) (length s) carried) (λ none. t .1 (t .0 ∙ none)) in
+      let before = fails-before (headerQuestions s) (questionsBehind (messageLength s) (length s) carried)
+      (λ none. t .1 (t .0 ∙ none)) in
       refusal Refused carried (t .0 ∙ before) (t .1)
 
   -- behind a header that is accepted the other questions decide

@@ -52,7 +52,9 @@ module _ (s : List ℕ) where
       behind = questionsBehind (messageLength s) (length s) (messageOf (messageFunction s) s)
 
       none : messageQuestion s ≡ 0
-      none = sym (passes-before (headerQuestions s) behind tt header) ∙ none-fails behind (eq-eqb (messageLength s) (length s) same, (npdu-there, tt))
+      none =
+          sym (passes-before (headerQuestions s) behind tt header) ∙ none-fails behind
+          (eq-eqb (messageLength s) (length s) same, (npdu-there, tt))
 
   -- the NPDU of a header, an address and some octets is those octets
   pub whole : Whole s (npdu s)

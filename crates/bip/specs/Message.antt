@@ -18,7 +18,7 @@ use Rattle.bip.specs.declared.BvlcMessage.the-variants.{Npdu, TimeToLive
 unfoldable pub registration : List ℕ → BvlcMessage
 registration s = cond (eqb (length s) 6) (TimeToLive (number (getD s 4 0) (getD s 5 0))) NoNpdu
 
--- what a message of a function carries: 0A and 0B an NPDU from octet 4 on, 04 from octet 10 on, 05 a registration, all else no NPDU
+-- what a message of a function carries: 0A and 0B an NPDU from octet 4 on, 04 from octet 10 on, 05 a registration; all else, 09 too, no NPDU
 abbrev pub messageOf : BvlcFunction → List ℕ → BvlcMessage
 messageOf Result s = NoNpdu
 messageOf WriteBroadcastDistributionTable s = NoNpdu
@@ -34,7 +34,7 @@ messageOf OriginalUnicastNpdu s = Npdu 4
 messageOf OriginalBroadcastNpdu s = Npdu 4
 messageOf SecureBvll s = NoNpdu
 
--- an NPDU has at least one octet
+-- there is at least one NPDU octet, if there is to be an NPDU
 abbrev pub npduThere : BvlcMessage → ℕ → Bool
 npduThere (Npdu start) size = ltb start size
 npduThere (TimeToLive n) size = true
@@ -69,7 +69,7 @@ npduOf (Refused q) s = []
 unfoldable pub npdu : List ℕ → List ℕ
 npdu s = npduOf (process s) s
 
--- if the message is a header, an address of as many octets as its function has, and some octets, the part is those octets
+-- if the message is a header that says its length, an address of as many octets as its function has, and at least one octet more, the part is what stands behind the address
 abbrev pub Whole : List ℕ → List ℕ → Type 0
 Whole s part =
     (function : BvlcFunction) (address body : List ℕ)

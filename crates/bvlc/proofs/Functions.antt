@@ -6,7 +6,7 @@ use Prim.Native.Nat.{ℕ, _≤_, _<_}
 use native.Mathlib.Omega.{arith}
 use borrow.Author.Tests.{le-leb, lt-leb}
 use lib.Dec.{leb}
-use Rattle.octets.proofs.Cases.{in-order, last-from}
+use Rattle.octets.proofs.Cases.{InOrder, in-order, last-from}
 use Rattle.bvlc.specs.declared.function.BvlcFunction.{BvlcFunction}
 use Rattle.bvlc.specs.declared.function.BvlcFunction.the-variants.{Result, WriteBroadcastDistributionTable, ReadBroadcastDistributionTable, ReadBroadcastDistributionTableAck, ForwardedNpdu, RegisterForeignDevice, ReadForeignDeviceTable, ReadForeignDeviceTableAck, DeleteForeignDeviceTableEntry, DistributeBroadcastToNetwork, OriginalUnicastNpdu, OriginalBroadcastNpdu, SecureBvll}
 use Rattle.bvlc.specs.declared.function.FunctionRead.the-variants.{Known, Unknown}
@@ -32,9 +32,10 @@ function-back SecureBvll = (refl, refl)
 -- the number of a number's function
 pub number-back : (n : ℕ) → n ≤ 0x0C → functionNumber (functionOf n) ≡ n
 unfolding functionOf
-number-back n h =
-    omega
-    (arith, in-order functionNumber functions SecureBvll 0 n (refl, (refl, (refl, (refl, (refl, (refl, (refl, (refl, (refl, (refl, (refl, (refl, (refl, tt))))))))))))) (omega arith))
+number-back n h = omega (arith, in-order functionNumber functions SecureBvll 0 n ordered (omega arith))
+  where
+    ordered : InOrder functionNumber 0 functions
+    ordered = (refl, (refl, (refl, (refl, (refl, (refl, (refl, (refl, (refl, (refl, (refl, (refl, (refl, tt)))))))))))))
 
 -- from 0C on it is the last
 pub function-last : (n : ℕ) → 0x0C ≤ n → SecureBvll ≡ functionOf n

@@ -48,7 +48,8 @@ unfolding decode headerQuestion headerQuestions messageFunction messageLength
 header-back f n rest =
     let back = function-back f in
     let none : headerQuestion (headerOctets f n ++ rest) ≡ 0
-    = none-fails (headerQuestions (headerOctets f n ++ rest)) (le-leb 4 (length (headerOctets f n ++ rest)) (omega arith), (refl, (back .0, tt))) in
+    = none-fails (headerQuestions (headerOctets f n ++ rest))
+    (le-leb 4 (length (headerOctets f n ++ rest)) (omega arith), (refl, (back .0, tt))) in
     answered-value Refused (Header (newHeader (functionOf (functionNumber f)) (number (n / 256) (n % 256)))) none
     ∙ ap₂ (λ (g : BvlcFunction) (k : ℕ). Header (newHeader g k)) (back .1) (number-of n)
 
@@ -128,7 +129,7 @@ module _ (f : BvlcFunction) (n : ℕ) (out : List ℕ) where
       → Encoded (Count count) l
   unfolding encodeAnswer encodeOutput encodeQuestion atFront
   written room {number} {count} {l} en ec el =
-      let none : encodeQuestion f n out ≡ 0 = none-fails (ask 16 (leb 4 (length out)) ∷ []) (le-leb 4 (length out) room, tt) in
+      let none : encodeQuestion out ≡ 0 = none-fails (ask 16 (leb 4 (length out)) ∷ []) (le-leb 4 (length out) room, tt) in
       let w = writes (headerOctets f n) out none ec front in
       (w .0, (w .1, in-front (GivesBack f n) (headerOctets f n) out (header-back f n) ec front))
     where

@@ -38,10 +38,11 @@ headerQuestions s =
 unfoldable pub headerQuestion : List ℕ → ℕ
 headerQuestion s = firstNo (headerQuestions s)
 
--- the function and the length that stand in a message's header
+-- the function that stands in a message's header
 unfoldable pub messageFunction : List ℕ → BvlcFunction
 messageFunction s = functionOf (getD s 1 0)
 
+-- the length that stands there
 unfoldable pub messageLength : List ℕ → ℕ
 messageLength s = number (getD s 2 0) (getD s 3 0)
 
@@ -49,15 +50,14 @@ messageLength s = number (getD s 2 0) (getD s 3 0)
 unfoldable pub decode : List ℕ → BvlcDecoded
 decode s = answered Refused (headerQuestion s) (Header (newHeader (messageFunction s) (messageLength s)))
 
-module _ (function : BvlcFunction) (n : ℕ) (out : List ℕ) where
-  -- the question of writing
-  unfoldable pub encodeQuestion : ℕ
-  encodeQuestion = firstNo (ask 16 (leb 4 (length out)) ∷ [])
+-- the question of writing, or 0
+unfoldable pub encodeQuestion : List ℕ → ℕ
+encodeQuestion out = firstNo (ask 16 (leb 4 (length out)) ∷ [])
 
-  -- what writing answers: four octets, or the question
-  unfoldable pub encodeAnswer : Written
-  encodeAnswer = writeAnswer encodeQuestion (headerOctets function n)
+-- what writing answers: four octets, or the question
+unfoldable pub encodeAnswer : BvlcFunction → ℕ → List ℕ → Written
+encodeAnswer function n out = writeAnswer (encodeQuestion out) (headerOctets function n)
 
-  -- the lent output afterwards: the header at its front, or as it was
-  unfoldable pub encodeOutput : List ℕ
-  encodeOutput = writeOutput encodeQuestion (headerOctets function n) out
+-- the lent output afterwards: the header at its front, or as it was
+unfoldable pub encodeOutput : BvlcFunction → ℕ → List ℕ → List ℕ
+encodeOutput function n out = writeOutput (encodeQuestion out) (headerOctets function n) out

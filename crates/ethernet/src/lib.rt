@@ -7,6 +7,7 @@ pub use datalink::data_link_error;
 pub use ethernet_decode::BACNET_ETHERNET_HEADER_SIZE;
 pub use ethernet_decode::EthernetDecoded;
 pub use ethernet_decode::EthernetResult;
+pub use ethernet_decode::MAX_ETHERNET_FRAME_SIZE;
 pub use ethernet_decode::MIN_ETHERNET_FRAME_SIZE;
 pub use ethernet_decode::decode;
 pub use ethernet_decode::payload;
@@ -17,8 +18,8 @@ ghost use Prim.Native.Nat.{_+_, _-_, _≤_};
 ghost use Rattle.ethernet.specs.Encode.{encodeAnswer, encodeOutput};
 ghost use Rattle.ethernet_decode.specs.RoundTrip.{ReadsBack};
 
-// Most payload octets of a written frame: 1514 less the header.
-const MAX_PAYLOAD_SIZE: usize = 1497;
+// Most payload octets of a written frame.
+const MAX_PAYLOAD_SIZE: usize = MAX_ETHERNET_FRAME_SIZE - BACNET_ETHERNET_HEADER_SIZE;
 
 // The octets of a frame with n octets of payload.
 fn frame_size(n: usize) -> usize

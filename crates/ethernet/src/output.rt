@@ -1,8 +1,11 @@
 // The parts of a frame, each written at the front of a lent output.
 use ethernet_decode::BACNET_ETHERNET_HEADER_SIZE;
+use ethernet_decode::BACNET_ETHERNET_TYPE;
+use ethernet_decode::LLC_CONTROL;
+use ethernet_decode::LLC_DSAP;
+use ethernet_decode::LLC_SSAP;
 use ethernet_decode::MIN_ETHERNET_FRAME_SIZE;
 ghost use mathlib.Core.Path.{_≡_};
-ghost use mathlib.Core.List.{_++_};
 ghost use Prim.Native.Nat.{_-_, _≤_};
 ghost use lib.ListN.{length, replicate};
 ghost use lib.Seq.{sets};
@@ -17,6 +20,8 @@ pub(crate) fn put_header(dest_mac: [u8; 6], src_mac: [u8; 6], out: &mut [u8])
     requires { ⌜ 17 ≤ length (now out) ⌝ }
     ensures { λ _. ⌜ now (out .exit) ≡ atFront (headerOctets bacnetType «dest_mac» «src_mac») (now (out .entry)) ⌝ }
 {
+    let high = (BACNET_ETHERNET_TYPE / 256) as u8;
+    let low = (BACNET_ETHERNET_TYPE % 256) as u8;
     let header = [
         dest_mac[0],
         dest_mac[1],
@@ -30,11 +35,11 @@ pub(crate) fn put_header(dest_mac: [u8; 6], src_mac: [u8; 6], out: &mut [u8])
         src_mac[3],
         src_mac[4],
         src_mac[5],
-        0x82,
-        0xDC,
-        0x82,
-        0x82,
-        0x03,
+        high,
+        low,
+        LLC_DSAP,
+        LLC_SSAP,
+        LLC_CONTROL,
     ];
     bytes::copy(&header, out);
 }

@@ -97,7 +97,9 @@ module _ (s : List ℕ) where
   validated e = (
     e,
     (
-      λ yes. let none = of-reading (valid-none (firstNo (validateQuestions s)) refl (sym e ∙ yes)) in (none-accepted (none .0), none .1),
+      λ yes. let none =
+          of-reading (valid-none (firstNo (validateQuestions s)) refl (sym e ∙ yes)) in
+          (none-accepted (none .0), none .1),
       λ both. e ∙ none-valid (of-size (accepted-none (decodeQuestion s) refl (both .0)) (both .1)),
     ),
   )

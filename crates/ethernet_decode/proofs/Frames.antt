@@ -25,7 +25,8 @@ module _ (s : List ℕ) where
   unfolding decodeQuestion decodeQuestions headerQuestions llcRight
   facts none =
       let all = all-yes (decodeQuestions s) tt none in
-      let first = both-true (eqb (getD s 14 0) 0x82) (eqb (getD s 15 0) 0x82 && eqb (getD s 16 0) 0x03) (all .1 .1 .0) in
+      let first = both-true (eqb (getD s 14 0) 0x82) (eqb (getD s 15 0) 0x82 && eqb (getD s 16 0) 0x03)
+      (all .1 .1 .0) in
       let others = both-true (eqb (getD s 15 0) 0x82) (eqb (getD s 16 0) 0x03) (first .1) in
       record {
         long = leb-true 17 (length s) (all .0);

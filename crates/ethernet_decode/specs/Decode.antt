@@ -12,10 +12,11 @@ use Rattle.ethernet_decode.specs.declared.EthernetResult.the-variants.{A
 use Rattle.ethernet_decode.specs.declared.EthernetDecoded.{EthernetDecoded}
 use Rattle.ethernet_decode.specs.Frame.{bacnetType}
 
--- the addresses in front
+-- the destination in front
 abbrev pub destinationOf : List ℕ → List ℕ
 destinationOf s = take 6 s
 
+-- the source behind it
 abbrev pub sourceOf : List ℕ → List ℕ
 sourceOf s = take 6 (drop 6 s)
 
@@ -39,7 +40,7 @@ decodeQuestions s = ask 21 (leb 17 (length s)) ∷ headerQuestions s
 unfoldable pub decodeQuestion : List ℕ → ℕ
 decodeQuestion s = firstNo (decodeQuestions s)
 
--- an answer that accepts, and one that refuses, whose addresses are zeros
+-- an answer that accepts, with both addresses
 abbrev pub accepted : List ℕ → List ℕ → EthernetDecoded
 accepted destination source = record {
   result = Accepted;
@@ -47,6 +48,7 @@ accepted destination source = record {
   «src_mac» = source;
 }
 
+-- an answer that refuses: its addresses are zeros
 abbrev pub refused : ℕ → EthernetDecoded
 refused q = record {
   result = Refused q;

@@ -30,6 +30,6 @@ unfoldable pub ethernetFrame : ℕ → List ℕ → List ℕ → List ℕ → Li
 ethernetFrame field destination source body =
     unpadded field destination source body ++ padding (length (unpadded field destination source body))
 
--- a payload with the zeros that pad its frame
+-- a payload with the zeros that pad its frame, whose header has 17 octets
 unfoldable pub paddedPayload : List ℕ → List ℕ
 paddedPayload body = body ++ padding (17 + length body)

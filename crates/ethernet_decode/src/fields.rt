@@ -1,4 +1,7 @@
 // The fields of a frame's octets.
+use crate::LLC_CONTROL;
+use crate::LLC_DSAP;
+use crate::LLC_SSAP;
 ghost use mathlib.Core.Path.{_≡_};
 ghost use Prim.Native.Nat.{_+_, _≤_};
 ghost use lib.ListN.{length, take, drop};
@@ -9,13 +12,13 @@ pub(crate) fn llc_right(frame: &[u8]) -> bool
     requires { ⌜ 17 ≤ length (now frame) ⌝ }
     ensures { λ r. ⌜ r ≡ llcRight (now (frame .entry)) ⌝ }
 {
-    if frame[14] != 0x82 {
+    if frame[14] != LLC_DSAP {
         return false;
     }
-    if frame[15] != 0x82 {
+    if frame[15] != LLC_SSAP {
         return false;
     }
-    frame[16] == 0x03
+    frame[16] == LLC_CONTROL
 }
 
 // The six octets of an address that starts at a place.

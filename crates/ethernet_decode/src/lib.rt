@@ -11,6 +11,13 @@ ghost use Rattle.ethernet_decode.specs.RoundTrip.{WritesBack, PayloadOf,
 // The two octets after the addresses.
 pub const BACNET_ETHERNET_TYPE: u16 = 0x82DC;
 
+// The LLC header: destination and source service access point, control.
+pub const LLC_DSAP: u8 = 0x82;
+
+pub const LLC_SSAP: u8 = 0x82;
+
+pub const LLC_CONTROL: u8 = 0x03;
+
 // Octets of the addresses, the type and the LLC header.
 pub const BACNET_ETHERNET_HEADER_SIZE: usize = 17;
 

@@ -14,10 +14,12 @@ npdu-there-requires : tie.Need-npdu-there-requires
 npdu-there-requires c κs = search needs
 
 returns-2 : tie.Need-returns-2
-returns-2 c = no-octet _ _ _ (c .before .before .if1 .left) (sym (c .before .npdu-there .ensures) ∙ not-true _ (c .if2 .taken))
+returns-2 c =
+    no-octet _ _ _ (c .before .before .if1 .left) (sym (c .before .npdu-there .ensures) ∙ not-true _ (c .if2 .taken))
 
 returns-3 : tie.Need-returns-3
-returns-3 c = all-asked _ _ _ (c .before .before .if1 .left) (sym (c .before .npdu-there .ensures) ∙ not-false _ (c .if2 .left))
+returns-3 c =
+    all-asked _ _ _ (c .before .before .if1 .left) (sym (c .before .npdu-there .ensures) ∙ not-false _ (c .if2 .left))
 
 pub asked-spec : {M : Type 1} → statement M
 asked-spec = tie.close (tie.spec returns npdu-there-requires returns-2 returns-3)

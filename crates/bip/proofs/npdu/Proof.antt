@@ -17,13 +17,16 @@ returns : tie.Need-returns
 returns c = part-npdu _ (started (c .before .before))
 
 returns-2 : tie.Need-returns-2
-returns-2 c = part-other _ (sym (c .before .before .before .process-bvlc-message .ensures) ∙ c .before .enum-told .given .1) refl
+returns-2 c =
+    part-other _ (sym (c .before .before .before .process-bvlc-message .ensures) ∙ c .before .enum-told .given .1) refl
 
 returns-3 : tie.Need-returns-3
-returns-3 c = part-other _ (sym (c .before .before .before .process-bvlc-message .ensures) ∙ c .before .enum-told2 .given .1) refl
+returns-3 c =
+    part-other _ (sym (c .before .before .before .process-bvlc-message .ensures) ∙ c .before .enum-told2 .given .1) refl
 
 returns-4 : tie.Need-returns-4
-returns-4 c = part-other _ (sym (c .before .before .before .process-bvlc-message .ensures) ∙ c .before .enum-told3 .given .1) refl
+returns-4 c =
+    part-other _ (sym (c .before .before .before .process-bvlc-message .ensures) ∙ c .before .enum-told3 .given .1) refl
 
 process-bvlc-message-requires : tie.Need-process-bvlc-message-requires
 process-bvlc-message-requires c κs = search needs

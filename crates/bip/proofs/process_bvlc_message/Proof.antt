@@ -22,7 +22,10 @@ enum-known-question : tie.Need-enum-known-question
 enum-known-question c = search needs
 
 returns : tie.Need-returns
-returns c = let told = c .before .before in header-accepted _ (sym (told .before .before .before .decode .ensures .0) ∙ told .before .header .given .1) (c .before .message-of .ensures) (c .asked .ensures)
+returns c =
+    let told = c .before .before in
+    header-accepted _ (sym (told .before .before .before .decode .ensures .0) ∙ told .before .header .given .1)
+    (c .before .message-of .ensures) (c .asked .ensures)
 
 returns-2 : tie.Need-returns-2
 returns-2 c = header-refused _ (sym (c .before .before .before .decode .ensures .0) ∙ c .before .question .given .1)

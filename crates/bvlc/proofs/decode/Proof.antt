@@ -32,9 +32,11 @@ number-requires : tie.Need-number-requires
 number-requires c κs = search needs
 
 returns-2 : tie.Need-returns-2
-returns-2 c = let called = c .before .before .before in
+returns-2 c =
+    let called = c .before .before .before in
     let p = called .before .before in
-    decode-accepted _ (p .before .header-question .ensures) (p .if1 .left) (λ i. p .before .before .shared-slice-known .given i .fits) (called .function-of .ensures) (c .number .ensures)
+    decode-accepted _ (p .before .header-question .ensures) (p .if1 .left)
+    (λ i. p .before .before .shared-slice-known .given i .fits) (called .function-of .ensures) (c .number .ensures)
 
 pub decode-spec : {M : Type 1} → statement M
 decode-spec =

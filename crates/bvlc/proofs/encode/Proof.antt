@@ -27,8 +27,10 @@ same-length : tie.Need-same-length
 same-length c = search needs
 
 returns-2 : tie.Need-returns-2
-returns-2 c = let p = c .before .before .before in
-    written _ _ _ (p .before .before .before .if1 .left) (p .before .before .to-u8 .ensures) (c .before .before .copy .ensures .0) (c .before .before .copy .ensures .1)
+returns-2 c =
+    let p = c .before .before .before in
+    written _ _ _ (p .before .before .before .if1 .left) (p .before .before .to-u8 .ensures)
+    (c .before .before .copy .ensures .0) (c .before .before .copy .ensures .1)
 
 pub encode-spec : {M : Type 1} → statement M
 encode-spec =

@@ -25,11 +25,15 @@ shared-slice-read-if3 c = search needs
 
 returns-3 : tie.Need-returns-3
 unfolding headerQuestion headerQuestions
-returns-3 c = passed 11 _ (le-leb _ _ (c .before .before .before .before .if1 .left)) (passed 12 _ (eq-eqb _ _ (c .before .before .if2 .left)) (failed 13 _ (lt-leb _ _ (c .if3 .taken))))
+returns-3 c =
+    passed 11 _ (le-leb _ _ (c .before .before .before .before .if1 .left))
+    (passed 12 _ (eq-eqb _ _ (c .before .before .if2 .left)) (failed 13 _ (lt-leb _ _ (c .if3 .taken))))
 
 returns-4 : tie.Need-returns-4
 unfolding headerQuestion headerQuestions
-returns-4 c = passed 11 _ (le-leb _ _ (c .before .before .before .before .if1 .left)) (passed 12 _ (eq-eqb _ _ (c .before .before .if2 .left)) (passed 13 _ (le-leb _ _ (c .if3 .left)) ended))
+returns-4 c =
+    passed 11 _ (le-leb _ _ (c .before .before .before .before .if1 .left))
+    (passed 12 _ (eq-eqb _ _ (c .before .before .if2 .left)) (passed 13 _ (le-leb _ _ (c .if3 .left)) ended))
 
 pub header-question-spec : {M : Type 1} → statement M
 header-question-spec =

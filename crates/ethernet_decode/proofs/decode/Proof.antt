@@ -24,8 +24,10 @@ address-requires-2 : tie.Need-address-requires-2
 address-requires-2 c κs = omega (arith, past (c .before) .long)
 
 returns-2 : tie.Need-returns-2
-returns-2 c = let p = c .before .before in
-    decode-accepted _ (p .before .decode-question .ensures) (p .if1 .left) (λ i. p .before .before .shared-slice-known .given i .fits) (c .before .address .ensures) (c .address2 .ensures)
+returns-2 c =
+    let p = c .before .before in
+    decode-accepted _ (p .before .decode-question .ensures) (p .if1 .left)
+    (λ i. p .before .before .shared-slice-known .given i .fits) (c .before .address .ensures) (c .address2 .ensures)
 
 pub decode-spec : {M : Type 1} → statement M
 decode-spec =

@@ -26,11 +26,15 @@ llc-right-requires c κs = search needs
 
 returns-2 : tie.Need-returns-2
 unfolding headerQuestions fieldOf
-returns-2 c = passed 22 _ (rw (← (c .before .before .before .number .ensures)) (eq-eqb _ _ (c .before .before .if1 .left))) (failed 23 _ (sym (c .before .llc-right .ensures) ∙ not-true _ (c .if2 .taken)))
+returns-2 c =
+    passed 22 _ (rw (← (c .before .before .before .number .ensures)) (eq-eqb _ _ (c .before .before .if1 .left)))
+    (failed 23 _ (sym (c .before .llc-right .ensures) ∙ not-true _ (c .if2 .taken)))
 
 returns-3 : tie.Need-returns-3
 unfolding headerQuestions fieldOf
-returns-3 c = passed 22 _ (rw (← (c .before .before .before .number .ensures)) (eq-eqb _ _ (c .before .before .if1 .left))) (passed 23 _ (sym (c .before .llc-right .ensures) ∙ not-false _ (c .if2 .left)) ended)
+returns-3 c =
+    passed 22 _ (rw (← (c .before .before .before .number .ensures)) (eq-eqb _ _ (c .before .before .if1 .left)))
+    (passed 23 _ (sym (c .before .llc-right .ensures) ∙ not-false _ (c .if2 .left)) ended)
 
 pub header-question-spec : {M : Type 1} → statement M
 header-question-spec =

@@ -15,7 +15,9 @@ use Rattle.ethernet_decode.proofs.validate_ethernet_frame.Tie as tie
 -- the header's questions stand behind the two sizes
 asked : (c : tie.After-header-question) → c .header-question .result ≡ firstNo (validateQuestions (c .before .before .before .before .args .frame .now))
 unfolding validateQuestions
-asked c = passed 21 _ (le-leb _ _ (c .before .before .if1 .left)) (passed 24 _ (le-leb _ _ (c .before .if2 .left)) (c .header-question .ensures))
+asked c =
+    passed 21 _ (le-leb _ _ (c .before .before .if1 .left))
+    (passed 24 _ (le-leb _ _ (c .before .if2 .left)) (c .header-question .ensures))
 
 returns : tie.Need-returns
 unfolding validate validateQuestions
@@ -23,7 +25,8 @@ returns c = validated _ (refusal Refused Accepted (failed 21 _ (lt-leb _ _ (c .i
 
 returns-2 : tie.Need-returns-2
 unfolding validate validateQuestions
-returns-2 c = validated _ (refusal Refused Accepted (passed 21 _ (le-leb _ _ (c .before .if1 .left)) (failed 24 _ (lt-leb _ _ (c .if2 .taken)))) (λ z. omega arith))
+returns-2 c =
+    validated _ (refusal Refused Accepted (passed 21 _ (le-leb _ _ (c .before .if1 .left)) (failed 24 _ (lt-leb _ _ (c .if2 .taken)))) (λ z. omega arith))
 
 header-question-requires : tie.Need-header-question-requires
 header-question-requires c κs = search needs

@@ -38,14 +38,14 @@ returns-7 c = rw (c .match .keys7)
 returns-8 : tie.Need-returns-8
 returns-8 c =
     let r = c .match .rest in
-    type-last _
-    (next
-    (next
-    (next
-    (next (next (next (next zero-le (r .0 .0 .0 .0 .0 .0 .1)) (r .0 .0 .0 .0 .0 .1)) (r .0 .0 .0 .0 .1)) (r .0 .0 .0 .1))
-    (r .0 .0 .1))
-    (r .0 .1))
-    (r .1))
+    let from1 = next zero-le (r .0 .0 .0 .0 .0 .0 .1) in
+    let from2 = next from1 (r .0 .0 .0 .0 .0 .1) in
+    let from3 = next from2 (r .0 .0 .0 .0 .1) in
+    let from4 = next from3 (r .0 .0 .0 .1) in
+    let from5 = next from4 (r .0 .0 .1) in
+    let from6 = next from5 (r .0 .1) in
+    let from7 = next from6 (r .1) in
+    type-last _ from7
 
 pub type-of-spec : {M : Type 1} → statement M
 type-of-spec =

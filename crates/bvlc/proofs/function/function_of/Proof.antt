@@ -56,7 +56,21 @@ unfolding functionOf
 returns-12 c = rw (c .match .keys12)
 
 returns-13 : tie.Need-returns-13
-returns-13 c = let r = c .match .rest in function-last _ (next (next (next (next (next (next (next (next (next (next (next (next zero-le (r .0 .0 .0 .0 .0 .0 .0 .0 .0 .0 .0 .1)) (r .0 .0 .0 .0 .0 .0 .0 .0 .0 .0 .1)) (r .0 .0 .0 .0 .0 .0 .0 .0 .0 .1)) (r .0 .0 .0 .0 .0 .0 .0 .0 .1)) (r .0 .0 .0 .0 .0 .0 .0 .1)) (r .0 .0 .0 .0 .0 .0 .1)) (r .0 .0 .0 .0 .0 .1)) (r .0 .0 .0 .0 .1)) (r .0 .0 .0 .1)) (r .0 .0 .1)) (r .0 .1)) (r .1))
+returns-13 c =
+    let r = c .match .rest in
+    let from1 = next zero-le (r .0 .0 .0 .0 .0 .0 .0 .0 .0 .0 .0 .1) in
+    let from2 = next from1 (r .0 .0 .0 .0 .0 .0 .0 .0 .0 .0 .1) in
+    let from3 = next from2 (r .0 .0 .0 .0 .0 .0 .0 .0 .0 .1) in
+    let from4 = next from3 (r .0 .0 .0 .0 .0 .0 .0 .0 .1) in
+    let from5 = next from4 (r .0 .0 .0 .0 .0 .0 .0 .1) in
+    let from6 = next from5 (r .0 .0 .0 .0 .0 .0 .1) in
+    let from7 = next from6 (r .0 .0 .0 .0 .0 .1) in
+    let from8 = next from7 (r .0 .0 .0 .0 .1) in
+    let from9 = next from8 (r .0 .0 .0 .1) in
+    let from10 = next from9 (r .0 .0 .1) in
+    let from11 = next from10 (r .0 .1) in
+    let from12 = next from11 (r .1) in
+    function-last _ from12
 
 pub function-of-spec : {M : Type 1} → statement M
 function-of-spec =

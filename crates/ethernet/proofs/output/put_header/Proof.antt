@@ -6,8 +6,11 @@ use borrow.Author.Needs.{needs}
 use Rattle.ethernet.proofs.output.put_header.Statement.{statement}
 use Rattle.ethernet.proofs.output.put_header.Tie as tie
 
-array-read-t9 : tie.Need-array-read-t9
-array-read-t9 c = search needs
+cast-high : tie.Need-cast-high
+cast-high c = search needs
+
+cast-low : tie.Need-cast-low
+cast-low c = search needs
 
 array-read-t12 : tie.Need-array-read-t12
 array-read-t12 c = search needs
@@ -42,6 +45,9 @@ array-read-t39 c = search needs
 array-read-t42 : tie.Need-array-read-t42
 array-read-t42 c = search needs
 
+array-read-t45 : tie.Need-array-read-t45
+array-read-t45 c = search needs
+
 slice-aggregate-copy : tie.Need-slice-aggregate-copy
 slice-aggregate-copy c = search needs
 
@@ -52,14 +58,17 @@ same-length : tie.Need-same-length
 same-length c = search needs
 
 returns : tie.Need-returns
-returns c = let a = c .before .before .before .before .before .before in
-    header-put (a .args .t1) (a .args .t2) (a .args .out .now) (omega (arith, a .good)) (omega (arith, a .good)) (c .before .before .copy .ensures .1)
+returns c =
+    let a = c .before .before .before .before .before .before in
+    header-put (a .args .t1) (a .args .t2) (a .args .out .now) (omega (arith, a .good)) (omega (arith, a .good))
+    (c .before .before .copy .ensures .1)
 
 pub put-header-spec : {M : Type 1} → statement M
 put-header-spec =
     tie.close
     (tie.spec
-    array-read-t9
+    cast-high
+    cast-low
     array-read-t12
     array-read-t15
     array-read-t18
@@ -71,6 +80,7 @@ put-header-spec =
     array-read-t36
     array-read-t39
     array-read-t42
+    array-read-t45
     slice-aggregate-copy
     copy-requires
     same-length

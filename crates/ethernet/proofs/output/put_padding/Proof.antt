@@ -11,7 +11,9 @@ use Rattle.ethernet.proofs.output.put_padding.Statement.{statement}
 use Rattle.ethernet.proofs.output.put_padding.Tie as tie
 
 abbrev Inv-loop : tie.InvT-loop
-Inv-loop out₀ from i₀ out i = (sets out i (replicate (43 - i) 0) ≡ sets out₀ from (replicate (43 - from) 0)) × ((43 ≤ length out) × (length out ≡ length out₀))
+Inv-loop out₀ from i₀ out i =
+    (sets out i (replicate (43 - i) 0) ≡ sets out₀ from (replicate (43 - from) 0)) ×
+    ((43 ≤ length out) × (length out ≡ length out₀))
 
 abbrev μ-loop : tie.MeasureT-loop
 μ-loop out₀ from i₀ out i = 43 - i
@@ -29,7 +31,8 @@ loop-less : tie.Need-loop-less Inv-loop μ-loop
 loop-less c = omega arith
 
 loop-again : tie.Need-loop-again Inv-loop μ-loop
-loop-again c = let l = c .before .loop in
+loop-again c =
+    let l = c .before .loop in
     (pad-step (l .out) (l .i) (search needs) ∙ l .inv .0, (simp length-set (l .inv .1 .0), length-set (l .out) (l .i) 0 ∙ l .inv .1 .1))
 
 same-length : tie.Need-same-length Inv-loop μ-loop

@@ -7,22 +7,24 @@ use borrow.Author.Needs.{needs}
 use Rattle.ethernet.proofs.output.put_payload.Statement.{statement}
 use Rattle.ethernet.proofs.output.put_payload.Tie as tie
 
+returns : tie.Need-returns
+returns c =
+    let at = c .before .before .before .before .before .before in
+    let a = at .before .before .before .before in
+    c .before .before .put-padding .ensures
+    ∙ payload-put (a .args .body .now) (a .args .out .now) (a .pre) (at .copy .ensures .0) (at .copy .ensures .1)
+
 copy-requires : tie.Need-copy-requires
 copy-requires c κs = let a = c .before .before .before in omega (arith, a .pre, padded-size (a .args .body .now))
 
 put-padding-requires : tie.Need-put-padding-requires
-put-padding-requires c κs = let at = c .before .before .before in
+put-padding-requires c κs =
+    let at = c .before .before .before in
     let a = at .before .before .before .before in
     padding-fits (a .args .body .now) (a .args .out .now) (a .pre) (at .copy .ensures .0) (at .copy .ensures .1)
 
 same-length : tie.Need-same-length
 same-length c = search needs
-
-returns : tie.Need-returns
-returns c = let at = c .before .before .before .before .before .before in
-    let a = at .before .before .before .before in
-    c .before .before .put-padding .ensures
-    ∙ payload-put (a .args .body .now) (a .args .out .now) (a .pre) (at .copy .ensures .0) (at .copy .ensures .1)
 
 pub put-payload-spec : {M : Type 1} → statement M
 put-payload-spec = tie.close (tie.spec copy-requires put-padding-requires same-length returns)

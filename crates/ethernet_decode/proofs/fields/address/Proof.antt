@@ -39,7 +39,9 @@ shared-slice-read-t19 : tie.Need-shared-slice-read-t19
 shared-slice-read-t19 c = search needs
 
 returns : tie.Need-returns
-returns c = let a = c .before .before .before .before .before .before in six (a .args .at) (a .args .frame .now) (a .pre)
+returns c =
+    let a = c .before .before .before .before .before .before in
+    six (a .args .at) (a .args .frame .now) (a .pre)
 
 pub address-spec : {M : Type 1} → statement M
 address-spec =
