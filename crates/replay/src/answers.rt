@@ -14,24 +14,33 @@ pub(crate) fn print_number(number: u16) {
     text::print_octets(&octets);
 }
 
-// Prints E, the letter of the Rust's error, N where it has none, and the question.
-pub(crate) fn print_refusal(question: u8) {
+// The letter of the Rust's error for a question; N where it has none.
+fn letter(question: u8) -> u8 {
     match datalink::data_link_error(question) {
-        DataLinkError::InvalidFrame => text::print(b"EI"),
-        DataLinkError::CrcError => text::print(b"EC"),
-        DataLinkError::Unmatched => text::print(b"EN"),
+        DataLinkError::InvalidFrame => b'I',
+        DataLinkError::CrcError => b'C',
+        DataLinkError::Unmatched => b'N',
     }
+}
+
+// Prints E, the letter of the Rust's error and the question.
+pub(crate) fn print_refusal(question: u8) {
+    let letters = [b'E', letter(question)];
     let octets = [question];
+    text::print(&letters);
     text::print_octets(&octets);
 }
 
-// Prints what a writer answered: F and a count below 65,536, or the refusal.
+// Prints F and a count below 65,536.
+fn print_count(count: usize) {
+    text::print(b"F");
+    print_number((count % 65536) as u16);
+}
+
+// Prints what a writer answered: the count, or the refusal.
 pub(crate) fn print_written(written: Written) {
     match written {
-        Written::Count(count) => {
-            text::print(b"F");
-            print_number((count % 65536) as u16);
-        }
+        Written::Count(count) => print_count(count),
         Written::Refused(question) => print_refusal(question),
     }
 }

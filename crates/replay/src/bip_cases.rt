@@ -18,29 +18,39 @@ pub(crate) fn header(input: &[u8]) {
     }
 }
 
-// Prints F and the fields of a header.
+// Prints F and the octets that a header holds.
 fn print_header(header: BvlcHeader) {
-    let function = header.function;
-    let n = header.length;
-    let fields = [
-        header.bvlc_type,
-        function.to_u8(),
-        (n / 256) as u8,
-        (n % 256) as u8,
-    ];
+    let fields = fields_of(header);
     text::print(b"F");
     text::print_octets(&fields);
 }
 
+// The octets that `BvlcHeader` holds.
+fn fields_of(header: BvlcHeader) -> [u8; 4] {
+    let function = header.function;
+    let n = header.length;
+    [
+        header.bvlc_type,
+        function.to_u8(),
+        (n / 256) as u8,
+        (n % 256) as u8,
+    ]
+}
+
 // What a message carries, then its NPDU.
 pub(crate) fn npdu(input: &[u8]) {
-    match bip::process_bvlc_message(input) {
+    print_message(bip::process_bvlc_message(input));
+    text::print_octets(bip::npdu(input));
+}
+
+// Prints what a message carries.
+fn print_message(message: BvlcMessage) {
+    match message {
         BvlcMessage::Npdu(_) => text::print(b"N"),
         BvlcMessage::TimeToLive(seconds) => print_time(seconds),
         BvlcMessage::NoNpdu => text::print(b"O"),
         BvlcMessage::Refused(question) => answers::print_refusal(question),
     }
-    text::print_octets(bip::npdu(input));
 }
 
 // Prints T and a time to live.
@@ -54,14 +64,17 @@ pub(crate) fn writing(input: &[u8], size: u16) {
     if input.len() < 3 {
         return;
     }
+    let length = octets::number(input[1], input[2]);
     match BvlcFunction::try_from(input[0]) {
-        FunctionRead::Known(function) => {
-            let mut out = text::space(BEFORE);
-            let length = octets::number(input[1], input[2]);
-            written(function, length, &mut out, size as usize);
-        }
+        FunctionRead::Known(function) => write(function, length, size),
         FunctionRead::Unknown => text::print(b"no function"),
     }
+}
+
+// Writes a header of that function and length.
+fn write(function: BvlcFunction, length: u16, size: u16) {
+    let mut out = text::space(BEFORE);
+    written(function, length, &mut out, size as usize);
 }
 
 // Writes into the front of `out`: the count or the refusal, then the output and some octets behind it.

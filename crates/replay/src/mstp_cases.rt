@@ -47,28 +47,43 @@ fn header_check(rule: CheckRule, input: &[u8]) {
 
 // Reading: the header or the refusal, then the data.
 fn reading(rule: CheckRule, frame: &[u8]) {
-    match mstp::decode(rule, frame) {
+    print_decoded(mstp::decode(rule, frame));
+    text::print_octets(mstp::frame_data(rule, frame));
+}
+
+// Prints what reading answered.
+fn print_decoded(decoded: MstpDecoded) {
+    match decoded {
         MstpDecoded::Frame(header) => print_header(header),
         MstpDecoded::Refused(question) => answers::print_refusal(question),
     }
-    text::print_octets(mstp::frame_data(rule, frame));
 }
 
 // Prints F, the fields of a header, and its data check.
 fn print_header(header: MstpHeader) {
-    let frame_type = header.frame_type;
+    let fields = fields_of(header);
     let data_crc = header.data_crc;
+    text::print(b"F");
+    text::print_octets(&fields);
+    print_data_crc(data_crc);
+}
+
+// The octets that `MstpHeader` holds, but for the data check.
+fn fields_of(header: MstpHeader) -> [u8; 6] {
+    let frame_type = header.frame_type;
     let n = header.data_length;
-    let fields = [
+    [
         frame_type.to_u8(),
         header.destination,
         header.source,
         (n / 256) as u8,
         (n % 256) as u8,
         header.header_crc,
-    ];
-    text::print(b"F");
-    text::print_octets(&fields);
+    ]
+}
+
+// Prints a data check, if there is one.
+fn print_data_crc(data_crc: DataCrc) {
     match data_crc {
         DataCrc::Present(check) => answers::print_number(check),
         DataCrc::Absent => text::print(b" none"),
@@ -81,12 +96,17 @@ fn writing(rule: CheckRule, input: &[u8], size: u16) {
         return;
     }
     match MstpFrameType::from_u8(input[0]) {
-        FrameTypeRead::Known(frame_type) => {
-            let mut out = text::space(BEFORE);
-            written(rule, frame_type, input, &mut out, size as usize);
-        }
+        FrameTypeRead::Known(frame_type) => write(rule, frame_type, input, size),
         FrameTypeRead::Unknown => text::print(b"no type"),
     }
+}
+
+// Writes a frame of that type.
+fn write(rule: CheckRule, frame_type: MstpFrameType, input: &[u8], size: u16)
+    requires { ⌜ 3 ≤ length (now input) ⌝ }
+{
+    let mut out = text::space(BEFORE);
+    written(rule, frame_type, input, &mut out, size as usize);
 }
 
 // Writes into the front of `out`: the count or the refusal, then the output and some octets behind it.
