@@ -3,13 +3,13 @@
 use mathlib.Core.Path.{_≡_, refl, sym, ap, _∙_}
 use mathlib.Core.Bool.{true}
 use mathlib.Core.List.{List, [], _++_}
-use Prim.Native.Nat.{ℕ, zero, suc, _+_, _-_, _<_}
+use Prim.Native.Nat.{ℕ, _+_, _-_, _<_}
 use native.Mathlib.Omega.{arith}
 use borrow.Author.Tests.{eq-eqb, lt-ltb, ltb-true}
 use lib.ListN.{length, take, drop, length-append, length-drop}
 use lib.Seq.{take-all, drop-append-add, drop-at}
-use Rattle.octets.specs.Question.{Question, answered}
-use Rattle.octets.proofs.Questions.{all-yes, none-fails, passes-before, answered-value}
+use Rattle.octets.specs.Question.{Question}
+use Rattle.octets.proofs.Questions.{all-yes, none-fails, passes-before, answered-value, is-value}
 use Rattle.bvlc.specs.declared.function.BvlcFunction.{BvlcFunction}
 use Rattle.bvlc.specs.declared.BvlcHeader.{BvlcHeader}
 use Rattle.bvlc.specs.declared.BvlcDecoded.the-variants.{Header}
@@ -21,18 +21,13 @@ use Rattle.bip.specs.Message.{messageOf, npduThere, questionsBehind, mes
 
 module _ (s : List ℕ) where
   -- an NPDU that is answered starts within the message
-  within-by : (k : ℕ) → messageQuestion s ≡ k → {start : ℕ} → process s ≡ Npdu start → start < length s
-  unfolding process answered messageQuestion messageQuestions headerQuestions questionsBehind
-  within-by zero e {start} told =
-      let all = all-yes (messageQuestions s) tt e in
-      ltb-true start (length s) (sym (ap (λ (m : BvlcMessage). npduThere m (length s)) (is told)) ∙ all .1 .1 .1 .1 .0)
-    where
-      is : process s ≡ Npdu start → messageOf (messageFunction s) s ≡ Npdu start
-      is told = cc
-  within-by (suc k) e told = let z : _≡_ {A = ℕ} 0 1 = cc in absurd (omega arith)
-
   pub within : {start : ℕ} → process s ≡ Npdu start → start < length s
-  within told = within-by (messageQuestion s) refl told
+  unfolding process messageQuestion messageQuestions headerQuestions questionsBehind
+  within {start} told =
+      let t = is-value Refused (messageOf (messageFunction s) s) (messageQuestion s) told
+      (λ k e. let z : _≡_ {A = ℕ} 0 1 = cc in omega arith) in
+      let all = all-yes (messageQuestions s) tt (t .0) in
+      ltb-true start (length s) (sym (ap (λ (m : BvlcMessage). npduThere m (length s)) (t .1)) ∙ all .1 .1 .1 .1 .0)
 
   -- a message whose header and octets are those of an NPDU is answered so
   is-npdu : {f : BvlcFunction} {start : ℕ}

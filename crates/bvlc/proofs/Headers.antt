@@ -2,21 +2,21 @@
 -- Assumes nothing.
 use mathlib.Core.Path.{_≡_, refl, sym, ap₂, _∙_}
 use mathlib.Core.List.{List, [], _∷_, _++_}
-use Prim.Native.Nat.{ℕ, zero, suc, _/_, _%_, _≤_, _<_, _^_}
+use Prim.Native.Nat.{ℕ, _/_, _%_, _≤_, _<_, _^_}
 use native.Mathlib.Omega.{arith}
 use borrow.Author.Tests.{leb-true, eqb-true, le-leb, lt-leb}
 use lib.Dec.{leb}
 use lib.ListN.{length, getD, take, drop}
 use Rattle.octets.specs.Number.{number}
-use Rattle.octets.specs.Question.{ask, answered}
+use Rattle.octets.specs.Question.{ask}
 use Rattle.octets.specs.Output.{atFront}
 use Rattle.octets.specs.declared.Written.{Written}
 use Rattle.octets.specs.declared.Written.the-variants.{Count}
 use Rattle.octets.specs.declared.Written.the-variants.{Refused as NotWritten}
 use Rattle.octets.proofs.Numbers.{number-of, high-first-of}
-use Rattle.octets.proofs.Outputs.{in-front, none-in-front, refuses, writes}
+use Rattle.octets.proofs.Outputs.{refuses, writes}
 use Rattle.octets.proofs.Parts.{part-is}
-use Rattle.octets.proofs.Questions.{failed, all-yes, none-fails, answered-value, refusal, acceptance}
+use Rattle.octets.proofs.Questions.{failed, all-yes, none-fails, answered-value, is-value, is-refusal, refusal, acceptance}
 use Rattle.bvlc.specs.declared.function.BvlcFunction.{BvlcFunction}
 use Rattle.bvlc.specs.declared.BvlcHeader.{BvlcHeader}
 use Rattle.bvlc.specs.declared.BvlcDecoded.{BvlcDecoded}
@@ -92,23 +92,20 @@ module _ (s : List ℕ) where
 
 -- what an answer of reading tells of the octets
 module _ (s : List ℕ) where
-  refused-by : (k : ℕ) → headerQuestion s ≡ k → {q : ℕ} → decode s ≡ Refused q → (q ≡ headerQuestion s) × (q ≡ 0 → ⊥)
-  unfolding decode answered
-  refused-by zero e told = let z : _≡_ {A = ℕ} 0 1 = cc in absurd (omega arith)
-  refused-by (suc k) e {q} told = let same : q ≡ suc k = cc in (same ∙ sym e, λ none. omega arith)
-
   pub told-refused : {q : ℕ} → decode s ≡ Refused q → (q ≡ headerQuestion s) × (q ≡ 0 → ⊥)
-  told-refused told = refused-by (headerQuestion s) refl told
-
-  header-by : (k : ℕ) → headerQuestion s ≡ k → {header : BvlcHeader} → decode s ≡ Header header
-      → (headerQuestion s ≡ 0) × (header ≡ newHeader (messageFunction s) (messageLength s))
-  unfolding decode answered
-  header-by zero e told = (e, cc)
-  header-by (suc k) e told = let z : _≡_ {A = ℕ} 0 1 = cc in absurd (omega arith)
+  unfolding decode
+  told-refused {q} told =
+      let t = is-refusal Refused (Header (newHeader (messageFunction s) (messageLength s))) (headerQuestion s) told
+      (λ e. let z : _≡_ {A = ℕ} 0 1 = cc in omega arith) in
+      let same : q ≡ headerQuestion s = cc in (same, λ none. t .0 (sym same ∙ none))
 
   pub told-header : {header : BvlcHeader} → decode s ≡ Header header
       → (headerQuestion s ≡ 0) × (header ≡ newHeader (messageFunction s) (messageLength s))
-  told-header told = header-by (headerQuestion s) refl told
+  unfolding decode
+  told-header told =
+      let t = is-value Refused (Header (newHeader (messageFunction s) (messageLength s))) (headerQuestion s) told
+      (λ k e. let z : _≡_ {A = ℕ} 0 1 = cc in omega arith) in
+      (t .0, cc)
 
 -- what writing answers and leaves, and what it promises
 module _ (f : BvlcFunction) (n : ℕ) (out : List ℕ) where
@@ -119,8 +116,7 @@ module _ (f : BvlcFunction) (n : ℕ) (out : List ℕ) where
   pub no-room : length out < 4 → Encoded (NotWritten 16) out
   unfolding encodeAnswer encodeOutput encodeQuestion
   no-room h =
-      let w = refuses (headerOctets f n) out (failed 16 [] (lt-leb 4 (length out) h)) (λ z. omega arith) in
-      (w .0, (w .1, none-in-front (GivesBack f n) out))
+      refuses (GivesBack f n) (headerOctets f n) out (failed 16 [] (lt-leb 4 (length out) h)) (λ z. omega arith)
 
   pub written : 4 ≤ length out → {number count : ℕ} {l : List ℕ}
       → number ≡ functionNumber f
@@ -130,8 +126,7 @@ module _ (f : BvlcFunction) (n : ℕ) (out : List ℕ) where
   unfolding encodeAnswer encodeOutput encodeQuestion atFront
   written room {number} {count} {l} en ec el =
       let none : encodeQuestion out ≡ 0 = none-fails (ask 16 (leb 4 (length out)) ∷ []) (le-leb 4 (length out) room, tt) in
-      let w = writes (headerOctets f n) out none ec front in
-      (w .0, (w .1, in-front (GivesBack f n) (headerOctets f n) out (header-back f n) ec front))
+      writes (GivesBack f n) (headerOctets f n) out (header-back f n) none ec front
     where
       front : l ≡ atFront (headerOctets f n) out
       front = rw (el, en)

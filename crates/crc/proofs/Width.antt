@@ -6,8 +6,7 @@ use native.Mathlib.Omega.{arith}
 use lib.Bits.{bitXor, xor-lt}
 use lib.Dec.{lit<}
 use lib.ListN.{getD}
-use lib.Pow.{ones-sub-lt}
-use Rattle.crc.specs.Check.{xorIf, step, steps, octetStep, register, ones, check}
+use Rattle.crc.specs.Check.{xorIf, step, steps, octetStep, register}
 use Rattle.crc.specs.Rule.{headerConstant}
 use Rattle.crc.specs.declared.CheckRule.{CheckRule}
 use Rattle.crc.specs.declared.CheckRule.the-variants.{AnnexG, House}
@@ -39,11 +38,6 @@ unfolding register
 register-fits w k x [] hk hx hs = hx
 register-fits w k x (b ∷ s) hk hx hs =
     register-fits w k (octetStep k x b) s hk (octetStep-fits w k x b hk hx (hs 0)) (λ i. hs (suc i))
-
--- the check of any octets fits its width
-pub check-fits : (w k : ℕ) (s : List ℕ) → check w k s < 2 ^ w
-unfolding check
-check-fits w k s = ones-sub-lt w (register k (ones w) s)
 
 -- the constants fit their widths
 pub header-constant-fits : (rule : CheckRule) → headerConstant rule < 2 ^ 8

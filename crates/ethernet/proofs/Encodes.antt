@@ -10,7 +10,7 @@ use lib.ListN.{length, take, drop, length-append, length-drop}
 use Rattle.octets.specs.Output.{atFront}
 use Rattle.octets.specs.declared.Written.{Written}
 use Rattle.octets.specs.declared.Written.the-variants.{Count, Refused}
-use Rattle.octets.proofs.Outputs.{in-front, none-in-front, front-rest, front-part, refuses, writes}
+use Rattle.octets.proofs.Outputs.{front-rest, front-part, refuses, writes}
 use Rattle.octets.proofs.Questions.{passed, failed, none-fails}
 use Rattle.ethernet_decode.specs.Frame.{bacnetType, headerOctets, unpadded, padding, ethernetFrame, paddedPayload}
 use Rattle.ethernet_decode.specs.RoundTrip.{GivesBack, ReadsBack}
@@ -50,9 +50,7 @@ module _ (d e body out : List ℕ) (hd : length d ≡ 6) (he : length e ≡ 6) w
 
   refused : {q : ℕ} → q ≡ encodeQuestion d e body out → (q ≡ 0 → ⊥) → Encoded (Refused q) out
   unfolding encodeAnswer encodeOutput
-  refused asked fails =
-      let w = refuses frame out asked fails in
-      (w .0, (w .1, none-in-front (GivesBack d e body) out))
+  refused asked fails = refuses (GivesBack d e body) frame out asked fails
 
   pub too-long : 1497 < length body → Encoded (Refused 24) out
   unfolding encodeQuestion encodeQuestions
@@ -81,9 +79,7 @@ module _ (d e body out : List ℕ) (hd : length d ≡ 6) (he : length e ≡ 6) w
       -- the octets at the front are the frame, which reads back
       written : {l : List ℕ} → l ≡ atFront frame out → Encoded (Count size) l
       unfolding encodeAnswer encodeOutput
-      written {l} front =
-          let w = writes frame out none (sym size-is) front in
-          (w .0, (w .1, in-front (GivesBack d e body) frame out back (sym size-is) front))
+      written front = writes (GivesBack d e body) frame out back none (sym size-is) front
         where
           back : GivesBack d e body frame
           back = rw frame-is (decode-back d e (paddedPayload body) hd he, payload-back d e (paddedPayload body) hd he)

@@ -1,14 +1,14 @@
 -- What reading and validating answer, with what each promises.
 -- Assumes nothing.
-use mathlib.Core.Path.{_≡_, refl, sym, ap, _∙_}
+use mathlib.Core.Path.{_≡_, sym, ap, _∙_}
 use mathlib.Core.List.{List, []}
-use Prim.Native.Nat.{ℕ, zero, suc, _-_, _≤_, _<_, _^_}
+use Prim.Native.Nat.{ℕ, _-_, _≤_, _<_, _^_}
 use native.Mathlib.Omega.{arith}
 use borrow.Author.Tests.{le-leb, leb-true}
 use lib.ListN.{length, getD, take, drop, length-drop}
 use lib.Seq.{take-all}
 use Rattle.octets.specs.Question.{firstNo, answered}
-use Rattle.octets.proofs.Questions.{all-yes, none-fails, answered-value, refusal, acceptance}
+use Rattle.octets.proofs.Questions.{all-yes, none-fails, answered-value, answered-part, is-value, refusal, acceptance}
 use Rattle.ethernet_decode.specs.declared.EthernetResult.{EthernetResult}
 use Rattle.ethernet_decode.specs.declared.EthernetResult.the-variants.{Refused}
 use Rattle.ethernet_decode.specs.declared.EthernetResult.the-variants.{Accepted as Yes}
@@ -17,6 +17,13 @@ use Rattle.ethernet_decode.specs.Frame.{bacnetType, unpadded}
 use Rattle.ethernet_decode.specs.Decode.{destinationOf, sourceOf, headerQuestions, decodeQuestions, decodeQuestion, accepted, refused, decode, payload, validateQuestions, validate}
 use Rattle.ethernet_decode.specs.RoundTrip.{WritesBack, PayloadOf, Agrees}
 use Rattle.ethernet_decode.proofs.Frames.{Accepted, facts, laid-out, payload-back}
+
+-- an answer accepts exactly where no question fails
+yes-none : (q : ℕ) → answered Refused q Yes ≡ Yes → q ≡ 0
+yes-none q e = is-value Refused Yes q e (λ k f. let z : _≡_ {A = ℕ} 0 1 = cc in omega arith) .0
+
+none-yes : {q : ℕ} → q ≡ 0 → answered Refused q Yes ≡ Yes
+none-yes none = answered-value Refused Yes none
 
 module _ (s : List ℕ) where
   abbrev value : EthernetDecoded
@@ -60,24 +67,10 @@ module _ (s : List ℕ) where
         whole : s ≡ unpadded bacnetType d f (payload s)
         whole = rw (ed, ef, ← (acceptance (λ _. []) (drop 17 s) asked passes)) (laid-out s octets (passed passes))
 
-  -- reading accepts exactly where no question fails, and so does the validator
-  accepted-none : (k : ℕ) → decodeQuestion s ≡ k → decode s .result ≡ Yes → decodeQuestion s ≡ 0
-  unfolding decode answered
-  accepted-none zero e told = e
-  accepted-none (suc k) e told = let z : _≡_ {A = ℕ} 0 1 = cc in absurd (omega arith)
-
-  none-accepted : decodeQuestion s ≡ 0 → decode s .result ≡ Yes
+  -- what reading answers beside the addresses
+  result-of : decode s .result ≡ answered Refused (decodeQuestion s) Yes
   unfolding decode
-  none-accepted none = ap (λ (d : EthernetDecoded). d .result) (answered-value refused value none)
-
-  valid-none : (k : ℕ) → firstNo (validateQuestions s) ≡ k → validate s ≡ Yes → firstNo (validateQuestions s) ≡ 0
-  unfolding validate answered
-  valid-none zero e told = e
-  valid-none (suc k) e told = let z : _≡_ {A = ℕ} 0 1 = cc in absurd (omega arith)
-
-  none-valid : firstNo (validateQuestions s) ≡ 0 → validate s ≡ Yes
-  unfolding validate
-  none-valid none = answered-value Refused Yes none
+  result-of = answered-part (λ (d : EthernetDecoded). d .result) refused value (decodeQuestion s)
 
   -- the validator's questions are those of reading and the size
   of-reading : firstNo (validateQuestions s) ≡ 0 → (decodeQuestion s ≡ 0) × (length s ≤ 1514)
@@ -94,12 +87,12 @@ module _ (s : List ℕ) where
 
   -- the validator's answer, and what it promises
   pub validated : {answer : EthernetResult} → answer ≡ validate s → (answer ≡ validate s) × Agrees s answer
+  unfolding validate
   validated e = (
     e,
     (
-      λ yes. let none =
-          of-reading (valid-none (firstNo (validateQuestions s)) refl (sym e ∙ yes)) in
-          (none-accepted (none .0), none .1),
-      λ both. e ∙ none-valid (of-size (accepted-none (decodeQuestion s) refl (both .0)) (both .1)),
+      λ yes. let none = of-reading (yes-none (firstNo (validateQuestions s)) (sym e ∙ yes)) in
+          (result-of ∙ none-yes (none .0), none .1),
+      λ both. e ∙ none-yes (of-size (yes-none (decodeQuestion s) (sym result-of ∙ both .0)) (both .1)),
     ),
   )

@@ -13,7 +13,7 @@ use Rattle.octets.specs.Number.{highFirst, lowFirst}
 use Rattle.octets.specs.Output.{atFront}
 use Rattle.octets.specs.declared.Written.{Written}
 use Rattle.octets.specs.declared.Written.the-variants.{Count, Refused}
-use Rattle.octets.proofs.Outputs.{in-front, none-in-front, length-front, front-sets, front-rest, front-part, refuses, writes}
+use Rattle.octets.proofs.Outputs.{front-sets, front-rest, front-part, refuses, writes}
 use Rattle.octets.proofs.Questions.{passed, failed, none-fails}
 use Rattle.crc.specs.Rule.{headerCheck, dataCheck}
 use Rattle.crc.specs.declared.CheckRule.{CheckRule}
@@ -75,9 +75,7 @@ module _ (rule : CheckRule) (t : MstpFrameType) (destination source : ℕ) (body
 
   refused : {q : ℕ} → q ≡ encodeQuestion rule t destination source body out → (q ≡ 0 → ⊥) → Encoded (Refused q) out
   unfolding encodeAnswer encodeOutput
-  refused e fails =
-      let w = refuses frame out e fails in
-      (w .0, (w .1, none-in-front (GivesBack rule t destination source body) out))
+  refused asked fails = refuses (GivesBack rule t destination source body) frame out asked fails
 
   pub too-long : 501 < length body → Encoded (Refused 7) out
   unfolding encodeQuestion encodeQuestions
@@ -102,9 +100,7 @@ module _ (rule : CheckRule) (t : MstpFrameType) (destination source : ℕ) (body
       -- the octets at the front are the frame, which reads back
       written : {l : List ℕ} → l ≡ atFront frame out → Encoded (Count size) l
       unfolding encodeAnswer encodeOutput
-      written {l} front =
-          let w = writes frame out none (sym frame-size-is) front in
-          (w .0, (w .1, in-front (GivesBack rule t destination source body) frame out back (sym frame-size-is) front))
+      written front = writes (GivesBack rule t destination source body) frame out back none (sym frame-size-is) front
         where
           back : GivesBack rule t destination source body frame
           back = (decode-back rule t destination source body, data-back rule t destination source body)
@@ -112,9 +108,6 @@ module _ (rule : CheckRule) (t : MstpFrameType) (destination source : ℕ) (body
       module _ {l : List ℕ} (header : l ≡ atFront (headerOctets rule (headerFields t destination source (length body))) out) where
         header-fits : 8 ≤ length out
         header-fits = omega (arith, size-least (length body))
-
-        pub same-size : length l ≡ length out
-        same-size = ap length header ∙ length-front (headerOctets rule (headerFields t destination source (length body))) out header-fits
 
         pub data-fits : length (dataOctets rule body) ≤ length (take (length l - 8) (drop 8 l))
         data-fits = rw (front-rest (headerOctets rule (headerFields t destination source (length body))) out header refl header-fits, length-drop 8 out) (omega (arith, data-size rule body))

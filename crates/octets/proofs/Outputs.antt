@@ -10,7 +10,7 @@ use lib.Seq.{take-all, take-at, drop-at, drop-drop, drop-append-add, sets, sets-
 use Rattle.octets.specs.Output.{atFront, writeAnswer, writeOutput, InFront}
 use Rattle.octets.specs.declared.Written.{Written}
 use Rattle.octets.specs.declared.Written.the-variants.{Count, Refused}
-use Rattle.octets.proofs.Questions.{answered-value, answered-refused}
+use Rattle.octets.proofs.Questions.{answered-value, refusal}
 
 -- the octets written are the front of the output
 pub take-front : (xs out : List ℕ) → take (length xs) (atFront xs out) ≡ xs
@@ -27,30 +27,29 @@ pub front-more : (xs ys out : List ℕ) → xs ++ atFront ys (drop (length xs) o
 unfolding atFront
 front-more xs ys out = rw (length-append, drop-drop, append-assoc)
 
--- what a writer has done: it answers r and leaves l
-abbrev pub Wrote : ℕ → List ℕ → List ℕ → Written → List ℕ → Type 0
-Wrote q xs out r l = (r ≡ writeAnswer q xs) × (l ≡ writeOutput q xs out)
+-- what a writer of xs that promises P has done: it answers r, leaves l, and P holds of the octets that r counts
+module _ (P : List ℕ → Type 0) (xs out : List ℕ) where
+  abbrev pub Wrote : ℕ → Written → List ℕ → Type 0
+  Wrote q r l = (r ≡ writeAnswer q xs) × ((l ≡ writeOutput q xs out) × InFront P r l)
 
--- it refuses, and leaves all as it was
-pub refuses : {q question : ℕ} (xs out : List ℕ) → q ≡ question → (q ≡ 0 → ⊥) → Wrote question xs out (Refused q) out
-unfolding writeAnswer writeOutput
-refuses {q} {question} xs out e fails =
-    rw (← e)
-    (sym (answered-refused Refused (Count (length xs)) q fails), sym (answered-refused (λ _. out) (atFront xs out) q fails))
+  -- it refuses, leaves all as it was, and counts nothing
+  pub refuses : {q question : ℕ} → q ≡ question → (q ≡ 0 → ⊥) → Wrote question (Refused q) out
+  unfolding writeAnswer writeOutput
+  refuses asked fails = (
+    refusal Refused (Count (length xs)) asked fails,
+    (refusal (λ _. out) (atFront xs out) asked fails, λ n same. let z : _≡_ {A = ℕ} 0 1 = cc in absurd (omega arith)),
+  )
 
--- it writes
-pub writes : {q : ℕ} (xs out : List ℕ) {n : ℕ} {l : List ℕ} → q ≡ 0 → n ≡ length xs → l ≡ atFront xs out → Wrote q xs out (Count n) l
-unfolding writeAnswer writeOutput
-writes {q} xs out none count front =
-    (ap Count count ∙ sym (answered-value Refused (Count (length xs)) none), front ∙ sym (answered-value (λ _. out) (atFront xs out) none))
-
--- what holds of the octets written holds of those that the answer counts; a refusal counts none
-pub in-front : (P : List ℕ → Type 0) (xs out : List ℕ) {n : ℕ} {l : List ℕ} → P xs → n ≡ length xs → l ≡ atFront xs out → InFront P (Count n) l
-in-front P xs out {n} {l} holds count front k same =
-    let e : k ≡ n = cc in subst P (sym (ap₂ (λ (i : ℕ) (s : List ℕ). take i s) (e ∙ count) front ∙ take-front xs out)) holds
-
-pub none-in-front : (P : List ℕ → Type 0) {q : ℕ} (l : List ℕ) → InFront P (Refused q) l
-none-in-front P l n same = let z : _≡_ {A = ℕ} 0 1 = cc in absurd (omega arith)
+  -- it writes octets of which P holds
+  pub writes : P xs → {q n : ℕ} {l : List ℕ} → q ≡ 0 → n ≡ length xs → l ≡ atFront xs out → Wrote q (Count n) l
+  unfolding writeAnswer writeOutput
+  writes holds {q} {n} {l} none count front = (
+    ap Count count ∙ sym (answered-value Refused (Count (length xs)) none),
+    (front ∙ sym (answered-value (λ _. out) (atFront xs out) none), λ k same. let e : k ≡ n = cc in counted k e),
+  )
+    where
+      counted : (k : ℕ) → k ≡ n → P (take k l)
+      counted k e = subst P (sym (ap₂ (λ (i : ℕ) (s : List ℕ). take i s) (e ∙ count) front ∙ take-front xs out)) holds
 
 -- a literal list stored behind a list at the front
 pub front-sets : (xs ys out : List ℕ) {l : List ℕ} {n : ℕ} → l ≡ atFront xs out → n ≡ length xs → length xs + length ys ≤ length out

@@ -72,6 +72,27 @@ unfolding answered
 answered-refused refused value zero some = absurd (some refl)
 answered-refused refused value (suc q) some = refl
 
+-- an answer that is no refusal is the value: no question failed
+pub is-value : {A : Type 0} (refused : ℕ → A) (value : A) (q : ℕ) {a : A} → answered refused q value ≡ a → ((k : ℕ) → refused k ≡ a → ⊥)
+    → (q ≡ 0) × (value ≡ a)
+unfolding answered
+is-value refused value zero e none = (refl, e)
+is-value refused value (suc q) e none = absurd (none (suc q) e)
+
+-- an answer that is not the value is the refusal: a question failed
+pub is-refusal : {A : Type 0} (refused : ℕ → A) (value : A) (q : ℕ) {a : A} → answered refused q value ≡ a → (value ≡ a → ⊥)
+    → (q ≡ 0 → ⊥) × (refused q ≡ a)
+unfolding answered
+is-refusal refused value zero e other = absurd (other e)
+is-refusal refused value (suc q) e other = (λ z. omega arith, e)
+
+-- a part of an answer is the answer of the parts
+pub answered-part : {A B : Type 0} (part : A → B) (refused : ℕ → A) (value : A) (q : ℕ)
+    → part (answered refused q value) ≡ answered (λ k. part (refused k)) q (part value)
+unfolding answered
+answered-part part refused value zero = refl
+answered-part part refused value (suc q) = refl
+
 -- the same from a number that was found to be the first question's
 module _ {A : Type 0} (refused : ℕ → A) (value : A) {q question : ℕ} (asked : q ≡ question) where
   pub refusal : (q ≡ 0 → ⊥) → refused q ≡ answered refused question value

@@ -5,6 +5,9 @@ use borrow.Author.Needs.{needs}
 use Rattle.bvlc.proofs.encode.Statement.{statement}
 use Rattle.bvlc.proofs.encode.Tie as tie
 
+copy-requires : tie.Need-copy-requires
+copy-requires c κs = search needs
+
 returns : tie.Need-returns
 returns c = no-room _ _ _ (c .if1 .taken)
 
@@ -19,9 +22,6 @@ to-u8-requires c κs = search needs
 
 slice-aggregate-copy : tie.Need-slice-aggregate-copy
 slice-aggregate-copy c = search needs
-
-copy-requires : tie.Need-copy-requires
-copy-requires c κs = search needs
 
 same-length : tie.Need-same-length
 same-length c = search needs

@@ -9,6 +9,12 @@ use borrow.Author.Needs.{needs}
 use Rattle.bvlc.proofs.header_question.Statement.{statement}
 use Rattle.bvlc.proofs.header_question.Tie as tie
 
+returns-4 : tie.Need-returns-4
+unfolding headerQuestion headerQuestions
+returns-4 c =
+    passed 11 _ (le-leb _ _ (c .before .before .before .before .if1 .left))
+    (passed 12 _ (eq-eqb _ _ (c .before .before .if2 .left)) (passed 13 _ (le-leb _ _ (c .if3 .left)) ended))
+
 returns : tie.Need-returns
 unfolding headerQuestion headerQuestions
 returns c = failed 11 _ (lt-leb _ _ (c .if1 .taken))
@@ -28,12 +34,6 @@ unfolding headerQuestion headerQuestions
 returns-3 c =
     passed 11 _ (le-leb _ _ (c .before .before .before .before .if1 .left))
     (passed 12 _ (eq-eqb _ _ (c .before .before .if2 .left)) (failed 13 _ (lt-leb _ _ (c .if3 .taken))))
-
-returns-4 : tie.Need-returns-4
-unfolding headerQuestion headerQuestions
-returns-4 c =
-    passed 11 _ (le-leb _ _ (c .before .before .before .before .if1 .left))
-    (passed 12 _ (eq-eqb _ _ (c .before .before .if2 .left)) (passed 13 _ (le-leb _ _ (c .if3 .left)) ended))
 
 pub header-question-spec : {M : Type 1} → statement M
 header-question-spec =

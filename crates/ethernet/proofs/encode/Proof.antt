@@ -15,11 +15,6 @@ destination-six c = omega (arith, c .good)
 source-six : (c : tie.Start) → length (c .args .src-mac) ≡ 6
 source-six c = omega (arith, c .good)
 
-returns : tie.Need-returns
-returns c =
-    let a = c .before .before .before in
-    too-long _ _ _ _ (destination-six a) (source-six a) (c .if1 .taken)
-
 frame-size-requires : tie.Need-frame-size-requires
 frame-size-requires c κs = search needs
 
@@ -29,6 +24,21 @@ returns-2 c =
     let a = asked .before .before .before .before in
     no-room _ _ _ _ (destination-six a) (source-six a) (asked .before .if1 .left) (asked .frame-size .ensures)
     (c .if2 .taken)
+
+returns-3 : tie.Need-returns-3
+returns-3 c =
+    let sent = c .before .before in
+    let at = sent .before .before .before .before in
+    let tested = at .before .before in
+    let asked = tested .before in
+    let a = asked .before .before .before .before in
+    all-written _ _ _ _ (destination-six a) (source-six a) (asked .before .if1 .left) (asked .frame-size .ensures)
+    (tested .if2 .left) (at .put-header .ensures) (sent .put-payload .ensures)
+
+returns : tie.Need-returns
+returns c =
+    let a = c .before .before .before in
+    too-long _ _ _ _ (destination-six a) (source-six a) (c .if1 .taken)
 
 put-header-requires : tie.Need-put-header-requires
 put-header-requires c κs = search needs
@@ -53,16 +63,6 @@ put-payload-requires c κs =
 
 same-length : tie.Need-same-length
 same-length c = search needs
-
-returns-3 : tie.Need-returns-3
-returns-3 c =
-    let sent = c .before .before in
-    let at = sent .before .before .before .before in
-    let tested = at .before .before in
-    let asked = tested .before in
-    let a = asked .before .before .before .before in
-    all-written _ _ _ _ (destination-six a) (source-six a) (asked .before .if1 .left) (asked .frame-size .ensures)
-    (tested .if2 .left) (at .put-header .ensures) (sent .put-payload .ensures)
 
 pub encode-spec : {M : Type 1} → statement M
 encode-spec =

@@ -5,6 +5,19 @@ use borrow.Author.Needs.{needs}
 use Rattle.mstp.proofs.encode.Statement.{statement}
 use Rattle.mstp.proofs.encode.Tie as tie
 
+put-header-requires : tie.Need-put-header-requires
+put-header-requires c κs = search needs
+
+returns-2 : tie.Need-returns-2
+returns-2 c = no-room _ _ _ _ _ _ (c .before .before .if1 .left) (c .before .frame-size .ensures .0) (c .if2 .taken)
+
+returns-3 : tie.Need-returns-3
+returns-3 c =
+    let at = c .before .before .before .before .before .before in
+    let asked = at .before .before in
+    all-written _ _ _ _ _ _ (asked .before .before .if1 .left) (asked .before .frame-size .ensures .0) (asked .if2 .left) (at .put-header .ensures)
+    (c .before .before .put-data .ensures)
+
 returns : tie.Need-returns
 returns c = too-long _ _ _ _ _ _ (c .if1 .taken)
 
@@ -16,12 +29,6 @@ frame-size-requires c κs = search needs
 
 cast-put-header : tie.Need-cast-put-header
 cast-put-header c = search needs
-
-put-header-requires : tie.Need-put-header-requires
-put-header-requires c κs = search needs
-
-returns-2 : tie.Need-returns-2
-returns-2 c = no-room _ _ _ _ _ _ (c .before .before .if1 .left) (c .before .frame-size .ensures .0) (c .if2 .taken)
 
 sub-put-data : tie.Need-sub-put-data
 sub-put-data c = search needs
@@ -41,13 +48,6 @@ put-data-requires c κs =
 
 same-length : tie.Need-same-length
 same-length c = search needs
-
-returns-3 : tie.Need-returns-3
-returns-3 c =
-    let at = c .before .before .before .before .before .before in
-    let asked = at .before .before in
-    all-written _ _ _ _ _ _ (asked .before .before .if1 .left) (asked .before .frame-size .ensures .0) (asked .if2 .left) (at .put-header .ensures)
-    (c .before .before .put-data .ensures)
 
 pub encode-spec : {M : Type 1} → statement M
 encode-spec =

@@ -1,7 +1,6 @@
 -- `bvlc::function::function_of` meets its contract: each arm is an entry of the list of functions.
 -- Assumes nothing.
-use Prim.Native.Nat.{zero-le}
-use Rattle.octets.proofs.Cases.{next}
+use Rattle.octets.proofs.Cases.{from-next}
 use Rattle.bvlc.specs.Function.{functionOf}
 use Rattle.bvlc.proofs.Functions.{function-last}
 use Rattle.bvlc.proofs.function.function_of.Statement.{statement}
@@ -56,21 +55,7 @@ unfolding functionOf
 returns-12 c = rw (c .match .keys12)
 
 returns-13 : tie.Need-returns-13
-returns-13 c =
-    let r = c .match .rest in
-    let from1 = next zero-le (r .0 .0 .0 .0 .0 .0 .0 .0 .0 .0 .0 .1) in
-    let from2 = next from1 (r .0 .0 .0 .0 .0 .0 .0 .0 .0 .0 .1) in
-    let from3 = next from2 (r .0 .0 .0 .0 .0 .0 .0 .0 .0 .1) in
-    let from4 = next from3 (r .0 .0 .0 .0 .0 .0 .0 .0 .1) in
-    let from5 = next from4 (r .0 .0 .0 .0 .0 .0 .0 .1) in
-    let from6 = next from5 (r .0 .0 .0 .0 .0 .0 .1) in
-    let from7 = next from6 (r .0 .0 .0 .0 .0 .1) in
-    let from8 = next from7 (r .0 .0 .0 .0 .1) in
-    let from9 = next from8 (r .0 .0 .0 .1) in
-    let from10 = next from9 (r .0 .0 .1) in
-    let from11 = next from10 (r .0 .1) in
-    let from12 = next from11 (r .1) in
-    function-last _ from12
+returns-13 c = function-last _ (from-next 12 _ (c .match .rest))
 
 pub function-of-spec : {M : Type 1} → statement M
 function-of-spec =

@@ -10,15 +10,15 @@ use borrow.Author.Needs.{needs}
 use Rattle.mstp.proofs.output.put_data.Statement.{statement}
 use Rattle.mstp.proofs.output.put_data.Tie as tie
 
+returns : tie.Need-returns
+returns c =
+    let a = c .before .before .before .args in no-data-put (a .rule) (a .body .now) (a .out .now) (c .if1 .taken)
+
 -- past the test there are data, and the output has room for them and their check
 room : (c : tie.Else1) → length (c .before .before .before .args .body .now) + 2 ≤ length (c .before .before .before .args .out .now)
 room c =
     let a = c .before .before .before in
     omega (arith, a .pre, some-size (a .args .rule) (a .args .body .now) (c .if1 .left))
-
-returns : tie.Need-returns
-returns c =
-    let a = c .before .before .before .args in no-data-put (a .rule) (a .body .now) (a .out .now) (c .if1 .taken)
 
 crc16-mstp-requires : tie.Need-crc16-mstp-requires
 crc16-mstp-requires c κs = search needs
