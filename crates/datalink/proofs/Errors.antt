@@ -3,30 +3,22 @@
 use mathlib.Core.Path.{_≡_}
 use mathlib.Core.Bool.{true, false}
 use mathlib.Core.Logic.{_⊎_, inl, inr}
-use Prim.Native.Nat.{ℕ, _≤_, _<_}
-use borrow.Author.Tests.{ne-eqb, le-leb, lt-leb}
-use lib.Dec.{leb}
+use Prim.Native.Nat.{ℕ}
+use borrow.Author.Tests.{ne-eqb}
+use Rattle.octets.specs.Range.{within}
 use Rattle.datalink.specs.declared.DataLinkError.the-variants.{InvalidFrame, CrcError, Unmatched}
-use Rattle.datalink.specs.Error.{between, asked, errorOf}
-
-pub before-first : (first last q : ℕ) → q < first → false ≡ between first last q
-unfolding between
-before-first first last q h = rw (lt-leb first q h)
-
-pub from-first : (first last q : ℕ) → first ≤ q → leb q last ≡ between first last q
-unfolding between
-from-first first last q h = rw (le-leb first q h)
+use Rattle.datalink.specs.Error.{asked, errorOf}
 
 -- the three ranges, one after another
-pub asked-mstp : (q : ℕ) → between 1 7 q ≡ true → true ≡ asked q
+pub asked-mstp : (q : ℕ) → within 1 7 q ≡ true → true ≡ asked q
 unfolding asked
 asked-mstp q e = rw e
 
-pub asked-bvlc : (q : ℕ) → between 1 7 q ≡ false → between 11 15 q ≡ true → true ≡ asked q
+pub asked-bvlc : (q : ℕ) → within 1 7 q ≡ false → within 11 15 q ≡ true → true ≡ asked q
 unfolding asked
 asked-bvlc q e f = rw (e, f)
 
-pub asked-ethernet : (q : ℕ) → between 1 7 q ≡ false → between 11 15 q ≡ false → between 21 24 q ≡ asked q
+pub asked-ethernet : (q : ℕ) → within 1 7 q ≡ false → within 11 15 q ≡ false → within 21 24 q ≡ asked q
 unfolding asked
 asked-ethernet q e f = rw (e, f)
 

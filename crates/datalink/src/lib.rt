@@ -1,6 +1,6 @@
 // The errors of the data links: datalink/mod.rs.
 ghost use mathlib.Core.Path.{_≡_};
-ghost use Rattle.datalink.specs.Error.{between, asked, errorOf};
+ghost use Rattle.datalink.specs.Error.{asked, errorOf};
 
 // The Rust's error for a question.
 pub enum DataLinkError {
@@ -10,27 +10,17 @@ pub enum DataLinkError {
     Unmatched,
 }
 
-// Whether a question's number is one from a first to a last.
-fn between(first: u8, last: u8, question: u8) -> bool
-    ensures { λ r. ⌜ r ≡ between first last question ⌝ }
-{
-    if question < first {
-        return false;
-    }
-    question <= last
-}
-
 // Whether the Rust asks a question too: of MS/TP, of BVLC messages, of Ethernet.
 fn asked(question: u8) -> bool
     ensures { λ r. ⌜ r ≡ asked question ⌝ }
 {
-    if between(1, 7, question) {
+    if octets::within(1, 7, question) {
         return true;
     }
-    if between(11, 15, question) {
+    if octets::within(11, 15, question) {
         return true;
     }
-    between(21, 24, question)
+    octets::within(21, 24, question)
 }
 
 // The Rust's error for a question's number.

@@ -3,6 +3,7 @@
 use Prim.Native.Nat.{ℕ, zero, suc}
 use mathlib.Core.Bool.{Bool, cond}
 use mathlib.Core.List.{List, [], _∷_}
+use lib.Dec.{eqb}
 
 -- a question: its number, and whether its answer is yes
 pub data Question : Type 0 where
@@ -17,3 +18,8 @@ firstNo (ask number holds ∷ questions) = cond holds (firstNo questions) number
 unfoldable pub answered : {A : Type 0} → (ℕ → A) → ℕ → A → A
 answered refused zero value = value
 answered refused (suc q) value = refused (suc q)
+
+-- the questions but those of a number
+unfoldable pub without : ℕ → List Question → List Question
+without number [] = []
+without number (ask other holds ∷ questions) = cond (eqb other number) (without number questions) (ask other holds ∷ without number questions)

@@ -6,30 +6,30 @@ use borrow.Author.Needs.{needs}
 use Rattle.datalink.proofs.asked.Statement.{statement}
 use Rattle.datalink.proofs.asked.Tie as tie
 
-between-requires : tie.Need-between-requires
-between-requires c κs = search needs
+within-requires : tie.Need-within-requires
+within-requires c κs = search needs
 
 returns : tie.Need-returns
-returns c = asked-mstp _ (sym (c .before .between .ensures) ∙ c .if1 .taken)
+returns c = asked-mstp _ (sym (c .before .within .ensures) ∙ c .if1 .taken)
 
-between-requires-2 : tie.Need-between-requires-2
-between-requires-2 c κs = search needs
+within-requires-2 : tie.Need-within-requires-2
+within-requires-2 c κs = search needs
 
 returns-2 : tie.Need-returns-2
 returns-2 c =
-    asked-bvlc _ (sym (c .before .before .before .between .ensures) ∙ c .before .before .if1 .left)
-    (sym (c .before .between2 .ensures) ∙ c .if2 .taken)
+    asked-bvlc _ (sym (c .before .before .before .within .ensures) ∙ c .before .before .if1 .left)
+    (sym (c .before .within2 .ensures) ∙ c .if2 .taken)
 
-between-requires-3 : tie.Need-between-requires-3
-between-requires-3 c κs = search needs
+within-requires-3 : tie.Need-within-requires-3
+within-requires-3 c κs = search needs
 
 returns-3 : tie.Need-returns-3
 returns-3 c =
-    c .between3 .ensures ∙ asked-ethernet _
-    (sym (c .before .before .before .before .between .ensures) ∙ c .before .before .before .if1 .left)
-    (sym (c .before .before .between2 .ensures) ∙ c .before .if2 .left)
+    c .within3 .ensures ∙ asked-ethernet _
+    (sym (c .before .before .before .before .within .ensures) ∙ c .before .before .before .if1 .left)
+    (sym (c .before .before .within2 .ensures) ∙ c .before .if2 .left)
 
 pub asked-spec : {M : Type 1} → statement M
 asked-spec =
     tie.close
-    (tie.spec between-requires returns between-requires-2 returns-2 between-requires-3 returns-3)
+    (tie.spec within-requires returns within-requires-2 returns-2 within-requires-3 returns-3)
