@@ -1,5 +1,5 @@
 // Answers a list of cases: standard input has one a line, as tools/oracle prints them, and standard output gets the
-// answers. The file `stdout` beside it has the Rust's.
+// answers. The file `stdout` beside it has the Rust's, where it has one: docs/REPLAY.md.
 mod answers;
 mod bip_cases;
 mod cases;

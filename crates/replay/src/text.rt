@@ -1,7 +1,7 @@
 // A line's octets, and octets as text.
 use libc::STDIN_FILENO;
 use libc::STDOUT_FILENO;
-ghost use Prim.Native.Nat.{_≤_, _<_};
+ghost use Prim.Native.Nat.{_≤_};
 ghost use mathlib.Core.Path.{_≡_};
 ghost use lib.ListN.{length};
 ghost use Rattle.io.specs.Counts.{Counts};
@@ -30,17 +30,6 @@ pub(crate) fn read_line(line: &mut [u8]) -> usize
         n += 1;
     }
     n
-}
-
-// The value of a hexadecimal digit; 0 for any other octet.
-fn digit(c: u8) -> u32
-    ensures { λ r. ⌜ r < 16 ⌝ }
-{
-    match c {
-        b'0'..=b'9' => (c - b'0') as u32,
-        b'a'..=b'f' => (c - b'a' + 10) as u32,
-        _ => 0,
-    }
 }
 
 // The place for the next octet behind n of them: n or, where two octets (four digits) are left, behind the zeros that
@@ -89,7 +78,7 @@ fn pair(line: &[u8], i: usize) -> u8 {
     if line.len() - i < 2 {
         return 0;
     }
-    (digit(line[i]) * 16 + digit(line[i + 1])) as u8
+    hex::octet(line[i], line[i + 1])
 }
 
 // Prints some letters.
