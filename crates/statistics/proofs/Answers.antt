@@ -1,0 +1,68 @@
+-- What the statistics are, and what the answer promises of them.
+-- Assumes nothing.
+use mathlib.Core.Path.{_≡_, refl, ap, _∙_}
+use Prim.Native.Nat.{ℕ, _≤_, _<_, _^_}
+use native.Mathlib.Omega.{arith}
+use mathlib.Core.List.{List, []}
+use lib.ListN.{length, getD}
+use borrow.Author.Tests.{le-leb, lt-leb}
+use Rattle.octets.proofs.Questions.{passed, failed, ended, refusal, acceptance}
+use Rattle.runs.specs.Longest.{longest}
+use Rattle.runs.specs.declared.Run.{Run}
+use Rattle.runs.proofs.Longest.{longest-law}
+use Rattle.statistics.specs.declared.FrameStatistics.{FrameStatistics}
+use Rattle.statistics.specs.declared.StatisticsResult.the-variants.{Calculated, Refused}
+use Rattle.statistics.specs.declared.StatisticsAnswer.{StatisticsAnswer}
+use Rattle.statistics.specs.Statistics.{byteDistribution, nullBytes, highBytes, longestRun, frameStatistics}
+use Rattle.statistics.specs.Statistics.{noStatistics, calculated, refused, statisticsQuestion, statistics}
+use Rattle.statistics.specs.Laws.{Calculates, AllCounted, NullCounted, HighCounted, LongestStands}
+use Rattle.statistics.proofs.Counting.{distribution-at}
+use Rattle.statistics.proofs.Sums.{all-total, high-total}
+
+module _ (s : List ℕ) where
+  -- the statistics of a distribution, a sum and a run
+  pub statistics-of : {counts : List ℕ} {high : ℕ} {r : Run} → counts ≡ byteDistribution s → high ≡ highBytes s → r ≡ longest s
+      → record {
+        «byte_distribution» = counts;
+        «null_bytes» = getD counts 0 0;
+        «high_bytes» = high;
+        «longest_run» = record { octet = r .octet; length = r .length };
+      } ≡ frameStatistics s
+  unfolding frameStatistics nullBytes longestRun
+  statistics-of e f g = rw (e, f, g, distribution-at s 0 (omega arith))
+
+  -- what the answer promises of the statistics
+  abbrev Holds : FrameStatistics → Type 0
+  Holds t = AllCounted s t × (NullCounted t × (HighCounted t × LongestStands s t))
+
+  -- the answer, with its promises
+  abbrev Answered : StatisticsAnswer → Type 0
+  Answered r =
+      (r ≡ statistics s)
+      × (Calculates (AllCounted s) r × (Calculates NullCounted r × (Calculates HighCounted r × Calculates (LongestStands s) r)))
+
+  -- more octets than question 31 takes
+  pub statistics-refused : 65535 < length s → {t : FrameStatistics} → t ≡ noStatistics → Answered (record { result = Refused 31; statistics = t })
+  unfolding statistics statisticsQuestion
+  statistics-refused h e = (
+    rw e (refusal refused (calculated (frameStatistics s)) (failed 31 [] (lt-leb (length s) 65535 h)) (λ z. omega arith)),
+    (none, (none, (none, none))),
+  )
+    where
+      none : {A : Type 0} → Refused 31 ≡ Calculated → A
+      none e = let z : _≡_ {A = ℕ} 0 1 = cc in absurd (omega arith)
+
+  module _ (octets : (i : ℕ) → getD s i 0 < 2 ^ 8) where
+    -- the promises hold of the statistics
+    holds : Holds (frameStatistics s)
+    unfolding frameStatistics nullBytes longestRun
+    holds = (all-total s octets, (distribution-at s 0 (omega arith), (high-total s octets, (longest s .start, longest-law s))))
+
+    -- no more than it takes
+    pub statistics-calculated : length s ≤ 65535 → {t : FrameStatistics} → t ≡ frameStatistics s → Answered (calculated t)
+    unfolding statistics statisticsQuestion
+    statistics-calculated h {t} e =
+        let l : Holds t = rw e holds in (
+          ap calculated e ∙ acceptance refused (calculated (frameStatistics s)) (passed 31 [] (le-leb (length s) 65535 h) ended) refl,
+          (λ y. l .0, (λ y. l .1 .0, (λ y. l .1 .1 .0, λ y. l .1 .1 .1))),
+        )
