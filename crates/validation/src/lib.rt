@@ -1,0 +1,116 @@
+// The validators of validation.rs, and the one that finds out which of them a frame goes to: `validate_frame`.
+use bvlc::BVLC_TYPE;
+use crc::CheckRule;
+use ethernet_decode::BACNET_ETHERNET_TYPE;
+pub use findings::BROADCAST_SOURCE;
+pub use findings::CRC_MISMATCH;
+pub use findings::FRAME_TOO_LONG;
+pub use findings::FRAME_TOO_SHORT;
+pub use findings::Finding;
+pub use findings::INVALID_ADDRESS;
+pub use findings::INVALID_FRAME_TYPE;
+pub use findings::INVALID_HEADER;
+pub use findings::INVALID_PREAMBLE;
+pub use findings::LENGTH_ABOVE_501;
+pub use findings::LinkType;
+pub use findings::MASTER_SENDS_TO_SLAVE;
+pub use findings::MULTICAST_ADDRESS;
+pub use findings::NON_STANDARD_CONFIGURATION;
+pub use findings::NOT_BACNET_LLC;
+pub use findings::NOT_BACNET_TYPE;
+pub use findings::PAYLOAD_SIZE_MISMATCH;
+pub use findings::PROPRIETARY_TYPE;
+pub use findings::SECURE_BVLL;
+pub use findings::SECURITY_WARNING;
+pub use findings::TABLE_CHANGED;
+pub use findings::UNDETERMINED;
+pub use findings::UNUSUAL_FRAME_SIZE;
+pub use findings::ValidationResult;
+use mstp_frame::MSTP_PREAMBLE_55;
+use mstp_frame::MSTP_PREAMBLE_FF;
+pub use validation_ethernet::validate_ethernet_frame;
+pub use validation_ip::validate_bacnet_ip_frame;
+pub use validation_mstp::validate_mstp_frame;
+ghost use mathlib.Core.Path.{_≡_};
+ghost use mathlib.Core.List.{[]};
+ghost use lib.Dec.{eqb};
+ghost use Rattle.mstp_decode.specs.Decode.{beginsPreamble};
+ghost use Rattle.ethernet_decode.specs.Frame.{bacnetType};
+ghost use Rattle.ethernet_decode.specs.Decode.{fieldOf};
+ghost use Rattle.validation_ip.specs.Tests.{bvlcType};
+ghost use Rattle.findings.specs.declared.LinkType.the-variants.{None};
+ghost use Rattle.findings.specs.Result.{result};
+ghost use Rattle.validation.specs.Frame.{linkOf, noLinkErrors, frameResult};
+
+// Whether a frame begins 55 FF.
+fn begins_mstp(frame: &[u8]) -> bool
+    ensures { λ r. ⌜ r ≡ beginsPreamble (now (frame .entry)) ⌝ }
+{
+    if frame.len() < 2 {
+        return false;
+    }
+    if frame[0] != MSTP_PREAMBLE_55 {
+        return false;
+    }
+    frame[1] == MSTP_PREAMBLE_FF
+}
+
+// Whether a frame begins 81.
+fn begins_bvlc(frame: &[u8]) -> bool
+    ensures { λ r. ⌜ r ≡ eqb (bvlcType (now (frame .entry))) 0x81 ⌝ }
+{
+    if frame.len() < 1 {
+        return false;
+    }
+    frame[0] == BVLC_TYPE
+}
+
+// Whether a frame has 82 DC at octet 12.
+fn has_bacnet_type(frame: &[u8]) -> bool
+    ensures { λ r. ⌜ r ≡ eqb (fieldOf (now (frame .entry))) bacnetType ⌝ }
+{
+    if frame.len() < 14 {
+        return false;
+    }
+    octets::number(frame[12], frame[13]) == BACNET_ETHERNET_TYPE
+}
+
+// The link that a frame is taken for.
+fn link_of(frame: &[u8]) -> LinkType
+    ensures { λ r. ⌜ r ≡ linkOf (now (frame .entry)) ⌝ }
+{
+    if begins_mstp(frame) {
+        return LinkType::MsTP;
+    }
+    if begins_bvlc(frame) {
+        return LinkType::BacnetIp;
+    }
+    if has_bacnet_type(frame) {
+        return LinkType::Ethernet;
+    }
+    LinkType::None
+}
+
+// The result where no link is determined.
+fn no_link(size: usize) -> ValidationResult
+    ensures { λ r. ⌜ r ≡ result None size (noLinkErrors size) [] ⌝ }
+{
+    let none = ValidationResult::new(LinkType::None, size);
+    if size < 1 {
+        return none.error_if(true, FRAME_TOO_SHORT, size, 1);
+    }
+    none.error_if(true, INVALID_HEADER, UNDETERMINED, 0)
+}
+
+// Checks a frame by the validator of the link that its octets tell. The rule is for MS/TP.
+pub fn validate_frame(rule: CheckRule, frame: &[u8]) -> ValidationResult
+    ensures { λ r. ⌜ r ≡ frameResult rule (now (frame .entry)) ⌝ }
+{
+    let link = link_of(frame);
+    match link {
+        LinkType::None => no_link(frame.len()),
+        LinkType::BacnetIp => validate_bacnet_ip_frame(frame),
+        LinkType::Ethernet => validate_ethernet_frame(frame),
+        LinkType::MsTP => validate_mstp_frame(rule, frame),
+    }
+}
