@@ -1,0 +1,5 @@
+pub mod Stretches
+pub mod Paddings
+pub mod Entries
+pub mod Laws
+pub mod Answers

@@ -1,0 +1,5 @@
+pub mod Detect
+pub mod Entries
+pub mod Laws
+pub mod Steps
+pub mod Stretches
