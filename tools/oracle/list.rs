@@ -16,7 +16,11 @@ impl List {
     // octets and the size of an output.
     pub fn add(&mut self, letters: [char; 2], octets: &[u8], size: usize, answer: &str) {
         let [kind, rule] = letters;
-        let case = format!("{kind}{rule}{}", case(octets, size));
+        self.add_line(format!("{kind}{rule}{}", case(octets, size)), answer);
+    }
+
+    // Adds a case and its answer as they stand in their lines, unless the list has the case.
+    pub fn add_line(&mut self, case: String, answer: &str) {
         if !self.seen.contains(&case) {
             self.cases += &case;
             self.cases.push('\n');
@@ -28,7 +32,7 @@ impl List {
 }
 
 // The most octets that a case tells, or that an answer shows of one thing.
-const MOST: usize = 2000;
+pub const MOST: usize = 2000;
 
 // The octets, two digits each.
 pub fn hex(octets: &[u8]) -> String {
