@@ -40,7 +40,7 @@ filled-more n findings entry room =
     one-free : n - length findings ≡ suc (n - (length findings + 1))
     one-free = omega arith
 
--- added to what is made of some findings, they are what is made of theirs too, as far as n have room
+-- tests added one after another to what is made of some findings give what is made of theirs too, as far as n have room
 module _ (add : ValidationResult → Test → ValidationResult) (made : List Finding → ValidationResult) (n : ℕ)
     (one : (findings : List Finding) (test : Test) → length findings < n → add (made findings) test ≡ made (findings ++ found (test ∷ []))) where
   gathered : (findings : List Finding) (tests : List Test) → length findings + length tests ≤ n

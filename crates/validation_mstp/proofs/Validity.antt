@@ -1,7 +1,7 @@
--- The tests of the validator and the questions of reading say the same, but for the type, the source and the longest length.
+-- The tests of the validator and the questions of reading say the same, but for the source and the longest length.
 -- Assumes nothing.
 use mathlib.Core.Path.{_≡_, refl, sym, ap, _∙_}
-use mathlib.Core.Bool.{Bool, true, false, _&&_, _||_, not, and-true}
+use mathlib.Core.Bool.{Bool, true, false, _&&_, _||_, not}
 use mathlib.Core.List.{List}
 use Prim.Native.Nat.{ℕ, _<_, _^_}
 use native.Mathlib.Omega.{arith}
@@ -9,7 +9,7 @@ use borrow.Author.Tests.{eq-eqb, eqb-true, eqb-false, le-leb, lt-leb, leb-true, 
 use lib.Dec.{eqb, leb, ltb}
 use lib.ListN.{length, getD}
 use Rattle.octets.specs.Range.{within}
-use Rattle.octets.specs.Question.{firstNo, without}
+use Rattle.octets.specs.Question.{firstNo, excusing}
 use Rattle.octets.proofs.Numbers.{same-number}
 use Rattle.octets.proofs.Questions.{all-yes, none-fails}
 use Rattle.octets.proofs.Tests.{both-true, same-test}
@@ -25,21 +25,30 @@ use Rattle.validation_mstp.specs.Validity.{readingQuestions, ValidAsRead
 eqb-sym : (a b : ℕ) → eqb a b ≡ eqb b a
 eqb-sym a b = same-test (eqb a b) (eqb b a) (λ e. eq-eqb b a (sym (eqb-true a b e))) (λ e. eq-eqb a b (sym (eqb-true b a e)))
 
+-- a type is 8 to 127 where it is neither known nor proprietary
+type-test : (t : ℕ) → within 8 127 t ≡ not (leb t 7 || leb 128 t)
+unfolding within
+type-test t = by (leb t 7) refl
+  where
+    above : (b : Bool) → leb 128 t ≡ b → leb t 127 ≡ not b
+    above true e = lt-leb t 127 (omega (arith, leb-true 128 t e))
+    above false e = le-leb t 127 (omega (arith, leb-false 128 t e))
+
+    by : (b : Bool) → leb t 7 ≡ b → leb 8 t && leb t 127 ≡ not (b || leb 128 t)
+    by true e = rw (lt-leb 8 t (omega (arith, leb-true t 7 e)))
+    by false e = rw (le-leb 8 t (omega (arith, leb-false t 7 e))) (above (leb 128 t) refl)
+
 module _ (rule : CheckRule) (s : List ℕ) where
-  -- the answers to questions 1, 2, 4, 5 and 6 are yes
-  record Rest : Type 0 where
+  -- the answers to the questions are yes, and source and length are right
+  record Right : Type 0 where
     long : leb 8 (length s) ≡ true
     begins : beginsPreamble s ≡ true
+    known : leb (frameType s) 7 || leb 128 (frameType s) ≡ true
     header : headerCheckRight rule s ≡ true
     size : eqb (length s) (frameSize (dataLength s)) ≡ true
     body : dataCheckRight rule s ≡ true
-
-  -- the tests of errors are: the same, the type, the source and the length
-  record Quiet : Type 0 where
-    rest : Rest
-    known : within 8 127 (frameType s) ≡ false
     sender : eqb (sourceOf s) 255 ≡ false
-    short : ltb 501 (dataLength s) ≡ false
+    short : leb (dataLength s) 501 ≡ true
 
   -- with the size right, the data check is wrong to the test exactly where it is to the question
   data-check : eqb (length s) (frameSize (dataLength s)) ≡ true
@@ -60,43 +69,41 @@ module _ (rule : CheckRule) (s : List ℕ) where
             eqb-sym (dataCheckSent s) (dataCheck rule (dataPart s)),
           )
 
+  -- so it is where no test of errors fires
   module _ (octets : (i : ℕ) → getD s i 0 < 2 ^ 8) where
     preamble-test : eqb (preamble s) 0x55FF ≡ beginsPreamble s
     unfolding beginsPreamble
     preamble-test = same-number (getD s 0 0) (getD s 1 0) 0x55 0xFF (octets 1) (omega arith)
 
-    quiet : eqb (length (mstpErrors rule s)) 0 ≡ true → Quiet
+    right : eqb (length (mstpErrors rule s)) 0 ≡ true → Right
     unfolding mstpErrors errorTests dataCheckTest headerCheckRight
-    quiet e =
+    right e =
         let v = valid 8 (length s) (errorTests rule s) e in
         let t = v .1 in
-        let right : eqb (length s) (frameSize (dataLength s)) ≡ true
+        let sized : eqb (length s) (frameSize (dataLength s)) ≡ true
         = eqb-sym (length s) (frameSize (dataLength s)) ∙ not-false (eqb (frameSize (dataLength s)) (length s)) (t .1 .1 .1 .1 .1 .0) in
         record {
-          rest = record {
-            long = le-leb 8 (length s) (v .0);
-            begins = sym preamble-test ∙ not-false (eqb (preamble s) 0x55FF) (t .0);
-            header = eqb-sym (headerCheckOf rule s) (headerCheckSent s) ∙ not-false (eqb (headerCheckSent s) (headerCheckOf rule s)) (t .1 .1 .1 .1 .0);
-            size = right;
-            body = not-false (dataCheckRight rule s) (data-check right ∙ t .1 .1 .1 .1 .1 .1 .0);
-          };
-          known = t .1 .0;
+          long = le-leb 8 (length s) (v .0);
+          begins = sym preamble-test ∙ not-false (eqb (preamble s) 0x55FF) (t .0);
+          known = not-false (leb (frameType s) 7 || leb 128 (frameType s)) (sym (type-test (frameType s)) ∙ t .1 .0);
+          header = eqb-sym (headerCheckOf rule s) (headerCheckSent s) ∙ not-false (eqb (headerCheckSent s) (headerCheckOf rule s)) (t .1 .1 .1 .1 .0);
+          size = sized;
+          body = not-false (dataCheckRight rule s) (data-check sized ∙ t .1 .1 .1 .1 .1 .1 .0);
           sender = t .1 .1 .0;
-          short = t .1 .1 .1 .0;
+          short = le-leb (dataLength s) 501 (ltb-false 501 (dataLength s) (t .1 .1 .1 .0));
         }
 
-    no-errors : Quiet → eqb (length (mstpErrors rule s)) 0 ≡ true
+    no-errors : Right → eqb (length (mstpErrors rule s)) 0 ≡ true
     unfolding mstpErrors errorTests dataCheckTest headerCheckRight
-    no-errors q =
-        let r = q .rest in
+    no-errors r =
         valid-if 8 (length s) (errorTests rule s) (leb-true 8 (length s) (r .long)) (
           ap not (preamble-test ∙ r .begins),
           (
-            q .known,
+            type-test (frameType s) ∙ ap not (r .known),
             (
-              q .sender,
+              r .sender,
               (
-                q .short,
+                le-ltb 501 (dataLength s) (leb-true (dataLength s) 501 (r .short)),
                 (
                   ap not (eqb-sym (headerCheckSent s) (headerCheckOf rule s) ∙ r .header),
                   (ap not (eqb-sym (frameSize (dataLength s)) (length s) ∙ r .size), (sym (data-check (r .size)) ∙ ap not (r .body), tt)),
@@ -106,58 +113,35 @@ module _ (rule : CheckRule) (s : List ℕ) where
           ),
         )
 
-  -- the questions of reading, the type's left out for a proprietary one
-  questions-pass : Rest → within 8 127 (frameType s) ≡ false → firstNo (readingQuestions rule s) ≡ 0
-  unfolding readingQuestions decodeQuestions without within
-  questions-pass r known = by (leb 128 (frameType s)) refl
-    where
-      by : (b : Bool) → leb 128 (frameType s) ≡ b → firstNo (readingQuestions rule s) ≡ 0
-      by true e = rw e (none-fails (without 3 (decodeQuestions rule s)) (r .long, (r .begins, (r .header, (r .size, (r .body, tt))))))
-      by false e =
-          let below = leb-false 128 (frameType s) e in
-          let few : leb 8 (frameType s) ≡ false = rw (le-leb (frameType s) 127 (omega arith), and-true (leb 8 (frameType s))) at known in
-          let seven = leb-false 8 (frameType s) few in
-          rw e (none-fails (decodeQuestions rule s) (r .long, (r .begins, (le-leb (frameType s) 7 (omega arith), (r .header, (r .size, (r .body, tt)))))))
+  -- and where the questions pass, with source and length
+  abbrev read : Bool
+  read = eqb (firstNo (readingQuestions rule s)) 0 && (not (eqb (sourceOf s) 255) && leb (dataLength s) 501)
 
-  passed : firstNo (readingQuestions rule s) ≡ 0 → Rest × (within 8 127 (frameType s) ≡ false)
-  unfolding readingQuestions decodeQuestions without within
-  passed none = by (leb 128 (frameType s)) refl
-    where
-      by : (b : Bool) → leb 128 (frameType s) ≡ b → Rest × (within 8 127 (frameType s) ≡ false)
-      by true e =
-          let y = all-yes (without 3 (decodeQuestions rule s)) tt (rw e at none) in
-          let above = leb-true 128 (frameType s) e in (
-            record { long = y .0; begins = y .1 .0; header = y .1 .1 .0; size = y .1 .1 .1 .0; body = y .1 .1 .1 .1 .0 },
-            rw (le-leb 8 (frameType s) (omega arith)) (lt-leb (frameType s) 127 (omega arith)),
-          )
-      by false e =
-          let y = all-yes (decodeQuestions rule s) tt (rw e at none) in
-          let seven = leb-true (frameType s) 7 (y .1 .1 .0) in (
-            record { long = y .0; begins = y .1 .0; header = y .1 .1 .1 .0; size = y .1 .1 .1 .1 .0; body = y .1 .1 .1 .1 .1 .0 },
-            rw (lt-leb 8 (frameType s) (omega arith)),
-          )
+  right-read : Right → read ≡ true
+  unfolding readingQuestions excusing decodeQuestions
+  right-read r =
+      let none = none-fails (readingQuestions rule s) (r .long, (r .begins, (r .known, (r .header, (r .size, (r .body, tt)))))) in
+      rw (eq-eqb (firstNo (readingQuestions rule s)) 0 none, r .sender) (r .short)
+
+  read-right : read ≡ true → Right
+  unfolding readingQuestions excusing decodeQuestions
+  read-right e =
+      let b = both-true (eqb (firstNo (readingQuestions rule s)) 0) (not (eqb (sourceOf s) 255) && leb (dataLength s) 501) e in
+      let d = both-true (not (eqb (sourceOf s) 255)) (leb (dataLength s) 501) (b .1) in
+      let y = all-yes (readingQuestions rule s) tt (eqb-true (firstNo (readingQuestions rule s)) 0 (b .0)) in
+      record {
+        long = y .0;
+        begins = y .1 .0;
+        known = y .1 .1 .0;
+        header = y .1 .1 .1 .0;
+        size = y .1 .1 .1 .1 .0;
+        body = y .1 .1 .1 .1 .1 .0;
+        sender = not-true (eqb (sourceOf s) 255) (d .0);
+        short = d .1;
+      }
 
 -- valid are exactly the octets that pass, with a source other than 255 and at most 501 data octets
 pub valid-as-read : (rule : CheckRule) (s : List ℕ) → ((i : ℕ) → getD s i 0 < 2 ^ 8) → ValidAsRead rule s (eqb (length (mstpErrors rule s)) 0)
-valid-as-read rule s octets = same-test (eqb (length (mstpErrors rule s)) 0) read there back
-  where
-    read : Bool
-    read = eqb (firstNo (readingQuestions rule s)) 0 && (not (eqb (sourceOf s) 255) && leb (dataLength s) 501)
-
-    there : eqb (length (mstpErrors rule s)) 0 ≡ true → read ≡ true
-    there e =
-        let q = quiet rule s octets e in
-        rw (eq-eqb (firstNo (readingQuestions rule s)) 0 (questions-pass rule s (q .rest) (q .known)), q .sender)
-        (le-leb (dataLength s) 501 (ltb-false 501 (dataLength s) (q .short)))
-
-    back : read ≡ true → eqb (length (mstpErrors rule s)) 0 ≡ true
-    back e =
-        let b = both-true (eqb (firstNo (readingQuestions rule s)) 0) (not (eqb (sourceOf s) 255) && leb (dataLength s) 501) e in
-        let d = both-true (not (eqb (sourceOf s) 255)) (leb (dataLength s) 501) (b .1) in
-        let p = passed rule s (eqb-true (firstNo (readingQuestions rule s)) 0 (b .0)) in
-        no-errors rule s octets (record {
-          rest = p .0;
-          known = p .1;
-          sender = not-true (eqb (sourceOf s) 255) (d .0);
-          short = le-ltb 501 (dataLength s) (leb-true (dataLength s) 501 (d .1));
-        })
+valid-as-read rule s octets =
+    same-test (eqb (length (mstpErrors rule s)) 0) (read rule s) (λ e. right-read rule s (right rule s octets e))
+    (λ e. no-errors rule s octets (read-right rule s e))

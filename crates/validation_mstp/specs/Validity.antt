@@ -1,18 +1,17 @@
 -- Which frames the MS/TP validator calls valid, by the questions of reading.
 -- Assumes nothing.
 use mathlib.Core.Path.{_≡_}
-use mathlib.Core.Bool.{Bool, cond, _&&_, not}
+use mathlib.Core.Bool.{Bool, _&&_, not}
 use mathlib.Core.List.{List}
 use Prim.Native.Nat.{ℕ}
 use lib.Dec.{leb, eqb}
-use Rattle.octets.specs.Question.{Question, firstNo, without}
+use Rattle.octets.specs.Question.{Question, firstNo, excusing}
 use Rattle.crc.specs.declared.CheckRule.{CheckRule}
 use Rattle.mstp_decode.specs.Decode.{frameType, sourceOf, dataLength, decodeQuestions}
 
--- the questions of reading; 3 is left out where the type is proprietary, 128 or more
+-- the questions of reading; 3 is excused where the type is proprietary, 128 or more
 unfoldable pub readingQuestions : CheckRule → List ℕ → List Question
-readingQuestions rule s =
-    cond (leb 128 (frameType s)) (without 3 (decodeQuestions rule s)) (decodeQuestions rule s)
+readingQuestions rule s = excusing 3 (leb 128 (frameType s)) (decodeQuestions rule s)
 
 -- valid are exactly the octets that pass them with a source other than 255 and at most 501 data octets
 abbrev pub ValidAsRead : CheckRule → List ℕ → Bool → Type 0
