@@ -2,7 +2,7 @@
 -- Assumes nothing.
 use mathlib.Core.Path.{_≡_, refl, sym, ap₂, _∙_}
 use mathlib.Core.List.{List, [], _∷_, _++_}
-use Prim.Native.Nat.{ℕ, _/_, _%_, _≤_, _<_, _^_}
+use Prim.Native.Nat.{ℕ, _/_, _%_, _≤_, _<_}
 use native.Mathlib.Omega.{arith}
 use borrow.Author.Tests.{leb-true, eqb-true, le-leb, lt-leb}
 use lib.Dec.{leb}
@@ -15,7 +15,7 @@ use Rattle.octets.specs.declared.Written.the-variants.{Count}
 use Rattle.octets.specs.declared.Written.the-variants.{Refused as NotWritten}
 use Rattle.octets.proofs.Numbers.{number-of, high-first-of}
 use Rattle.octets.proofs.Outputs.{refuses, writes}
-use Rattle.octets.proofs.Parts.{part-is}
+use Rattle.octets.proofs.Parts.{Octets, part-is}
 use Rattle.octets.proofs.Questions.{failed, all-yes, none-fails, answered-value, is-value, is-refusal, refusal, acceptance}
 use Rattle.bvlc.specs.declared.function.BvlcFunction.{BvlcFunction}
 use Rattle.bvlc.specs.declared.BvlcHeader.{BvlcHeader}
@@ -69,7 +69,7 @@ module _ (s : List ℕ) where
     pub facts : q ≡ 0 → Accepted s
     facts passes = accepted s (sym asked ∙ passes)
 
-    pub decode-accepted : q ≡ 0 → ((i : ℕ) → getD s i 0 < 2 ^ 8) → {f : BvlcFunction} {n : ℕ}
+    pub decode-accepted : q ≡ 0 → Octets s → {f : BvlcFunction} {n : ℕ}
         → f ≡ functionOf (getD s 1 0) → n ≡ number (getD s 2 0) (getD s 3 0)
         → Decoded (Header (newHeader f n))
     unfolding decode messageFunction messageLength

@@ -2,12 +2,13 @@
 -- Assumes nothing.
 use mathlib.Core.Path.{_≡_, sym, ap, _∙_}
 use mathlib.Core.List.{List, []}
-use Prim.Native.Nat.{ℕ, _-_, _≤_, _<_, _^_}
+use Prim.Native.Nat.{ℕ, _-_, _≤_}
 use native.Mathlib.Omega.{arith}
 use borrow.Author.Tests.{le-leb, leb-true}
-use lib.ListN.{length, getD, take, drop, length-drop}
+use lib.ListN.{length, take, drop, length-drop}
 use lib.Seq.{take-all}
 use Rattle.octets.specs.Question.{firstNo, answered}
+use Rattle.octets.proofs.Parts.{Octets}
 use Rattle.octets.proofs.Questions.{all-yes, none-fails, answered-value, answered-part, is-value, refusal, acceptance}
 use Rattle.ethernet_decode.specs.declared.EthernetResult.{EthernetResult}
 use Rattle.ethernet_decode.specs.declared.EthernetResult.the-variants.{Refused}
@@ -58,7 +59,7 @@ module _ (s : List ℕ) where
         payload-of
         (take-all (length s - 17) (drop 17 s) (omega (arith, length-drop 17 s)) ∙ acceptance (λ _. []) (drop 17 s) asked passes)
 
-    pub decode-accepted : q ≡ 0 → ((i : ℕ) → getD s i 0 < 2 ^ 8) → {d f : List ℕ} → d ≡ take 6 (drop 0 s) → f ≡ take 6 (drop 6 s)
+    pub decode-accepted : q ≡ 0 → Octets s → {d f : List ℕ} → d ≡ take 6 (drop 0 s) → f ≡ take 6 (drop 6 s)
         → Decoded (accepted d f)
     unfolding decode payload
     decode-accepted passes octets {d} {f} ed ef =

@@ -3,12 +3,12 @@
 use mathlib.Core.Path.{_≡_, refl, sym, ap, ap₂, _∙_}
 use mathlib.Core.Bool.{_&&_}
 use mathlib.Core.List.{List, [], _∷_}
-use Prim.Native.Nat.{ℕ, suc, _+_, _≤_, _<_, _^_}
+use Prim.Native.Nat.{ℕ, suc, _+_, _≤_}
 use native.Mathlib.Omega.{arith}
 use borrow.Author.Tests.{le-leb, leb-true, eqb-true}
 use lib.Dec.{eqb}
 use lib.ListN.{length, getD, take, drop}
-use Rattle.octets.proofs.Parts.{octetsFrom, part-is, all-is, front-is}
+use Rattle.octets.proofs.Parts.{Octets, octetsFrom, part-is, all-is, front-is}
 use Rattle.octets.proofs.Questions.{all-yes, none-fails, answered-value}
 use Rattle.octets.proofs.Tests.{both-true}
 use Rattle.ethernet_decode.specs.Frame.{bacnetType, unpadded}
@@ -38,7 +38,7 @@ module _ (s : List ℕ) where
       }
 
   -- what is accepted is a frame without padding
-  pub laid-out : ((i : ℕ) → getD s i 0 < 2 ^ 8) → Accepted s → s ≡ unpadded bacnetType (destinationOf s) (sourceOf s) (drop 17 s)
+  pub laid-out : Octets s → Accepted s → s ≡ unpadded bacnetType (destinationOf s) (sourceOf s) (drop 17 s)
   unfolding unpadded fieldOf
   laid-out octets a =
       let high : getD s 12 0 ≡ 0x82 = omega (arith, a .field, octets 13) in

@@ -2,9 +2,10 @@
 -- Assumes nothing.
 use mathlib.Core.Path.{_≡_, refl, sym, ap, _∙_}
 use mathlib.Core.List.{List, []}
-use Prim.Native.Nat.{ℕ, zero, suc, _+_, _-_, _≤_, _<_, _^_}
+use Prim.Native.Nat.{ℕ, zero, suc, _+_, _-_, _≤_}
 use native.Mathlib.Omega.{arith}
-use lib.ListN.{length, getD, take, drop}
+use lib.ListN.{length, take, drop}
+use Rattle.octets.proofs.Parts.{Octets}
 use Rattle.octets.proofs.Questions.{refusal, acceptance}
 use Rattle.crc.specs.declared.CheckRule.{CheckRule}
 use Rattle.mstp_decode.specs.declared.MstpHeader.{MstpHeader}
@@ -50,7 +51,7 @@ module _ (rule : CheckRule) (s : List ℕ) where
     unfolding frameData
     part-is = acceptance (λ _. []) (dataPart s) asked passes
 
-    pub decode-accepted : {header : MstpHeader} → ((i : ℕ) → getD s i 0 < 2 ^ 8) → header ≡ headerOf s → Decoded (Frame header)
+    pub decode-accepted : {header : MstpHeader} → Octets s → header ≡ headerOf s → Decoded (Frame header)
     unfolding decode headerOf
     decode-accepted {header} octets e = (
       ap Frame e ∙ acceptance Refused (Frame (headerOf s)) asked passes,

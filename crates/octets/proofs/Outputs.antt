@@ -7,6 +7,7 @@ use native.Mathlib.Omega.{arith}
 use borrow.Rule.Slice.PartMut.{putMid}
 use lib.ListN.{length, take, drop, length-append, length-drop, drop-of-length-le}
 use lib.Seq.{take-all, take-at, drop-at, drop-drop, drop-append-add, sets, sets-eq}
+use Rattle.octets.specs.Question.{answered}
 use Rattle.octets.specs.Output.{atFront, writeAnswer, writeOutput, InFront}
 use Rattle.octets.specs.declared.Written.{Written}
 use Rattle.octets.specs.declared.Written.the-variants.{Count, Refused}
@@ -27,26 +28,41 @@ pub front-more : (xs ys out : List ℕ) → xs ++ atFront ys (drop (length xs) o
 unfolding atFront
 front-more xs ys out = rw (length-append, drop-drop, append-assoc)
 
--- what a writer of xs that promises P has done: it answers r, leaves l, and P holds of the octets that r counts
+-- a call that answers a value and writes xs, or refuses: it answers r, leaves l, and what it promises holds of both
+module _ {A : Type 0} (refused : ℕ → A) (value : A) (Promise : A → List ℕ → Type 0) (xs out : List ℕ) where
+  abbrev pub Left : ℕ → A → List ℕ → Type 0
+  Left q r l = (r ≡ answered refused q value) × ((l ≡ writeOutput q xs out) × Promise r l)
+
+  -- it refuses, and leaves all as it was
+  pub left-refused : ((k : ℕ) → Promise (refused k) out) → {q question : ℕ} → q ≡ question → (q ≡ 0 → ⊥) → Left question (refused q) out
+  unfolding writeOutput
+  left-refused holds {q} asked fails = (
+    refusal refused value asked fails,
+    (refusal (λ _. out) (atFront xs out) asked fails, holds q),
+  )
+
+  -- it writes
+  pub left-written : {q : ℕ} {r : A} {l : List ℕ} → q ≡ 0 → r ≡ value → l ≡ atFront xs out → Promise r l → Left q r l
+  unfolding writeOutput
+  left-written none answer front holds = (
+    answer ∙ sym (answered-value refused value none),
+    (front ∙ sym (answered-value (λ _. out) (atFront xs out) none), holds),
+  )
+
+-- of a writer of xs that promises P of the octets that it counts
 module _ (P : List ℕ → Type 0) (xs out : List ℕ) where
   abbrev pub Wrote : ℕ → Written → List ℕ → Type 0
   Wrote q r l = (r ≡ writeAnswer q xs) × ((l ≡ writeOutput q xs out) × InFront P r l)
 
-  -- it refuses, leaves all as it was, and counts nothing
   pub refuses : {q question : ℕ} → q ≡ question → (q ≡ 0 → ⊥) → Wrote question (Refused q) out
-  unfolding writeAnswer writeOutput
-  refuses asked fails = (
-    refusal Refused (Count (length xs)) asked fails,
-    (refusal (λ _. out) (atFront xs out) asked fails, λ n same. let z : _≡_ {A = ℕ} 0 1 = cc in absurd (omega arith)),
-  )
+  unfolding writeAnswer
+  refuses asked fails =
+      left-refused Refused (Count (length xs)) (InFront P) xs out (λ k n same. let z : _≡_ {A = ℕ} 0 1 = cc in absurd (omega arith)) asked fails
 
-  -- it writes octets of which P holds
   pub writes : P xs → {q n : ℕ} {l : List ℕ} → q ≡ 0 → n ≡ length xs → l ≡ atFront xs out → Wrote q (Count n) l
-  unfolding writeAnswer writeOutput
-  writes holds {q} {n} {l} none count front = (
-    ap Count count ∙ sym (answered-value Refused (Count (length xs)) none),
-    (front ∙ sym (answered-value (λ _. out) (atFront xs out) none), λ k same. let e : k ≡ n = cc in counted k e),
-  )
+  unfolding writeAnswer
+  writes holds {q} {n} {l} none count front =
+      left-written Refused (Count (length xs)) (InFront P) xs out none (ap Count count) front (λ k same. let e : k ≡ n = cc in counted k e)
     where
       counted : (k : ℕ) → k ≡ n → P (take k l)
       counted k e = subst P (sym (ap₂ (λ (i : ℕ) (s : List ℕ). take i s) (e ∙ count) front ∙ take-front xs out)) holds

@@ -1,14 +1,14 @@
 -- What `detect_patterns` answers and leaves, with what it promises of the entries.
 -- Assumes nothing.
-use mathlib.Core.Path.{_≡_, refl, sym, ap, _∙_}
+use mathlib.Core.Path.{_≡_, refl, ap, _∙_}
 use mathlib.Core.List.{List, []}
 use Prim.Native.Nat.{ℕ, _*_, _≤_, _<_}
 use native.Mathlib.Omega.{arith}
 use borrow.Author.Tests.{le-leb, lt-leb}
 use lib.ListN.{length, drop}
-use Rattle.octets.specs.Output.{atFront, writeOutput}
-use Rattle.octets.proofs.Outputs.{front-sets}
-use Rattle.octets.proofs.Questions.{passed, failed, none-fails, answered-value, refusal}
+use Rattle.octets.specs.Output.{atFront}
+use Rattle.octets.proofs.Outputs.{left-refused, left-written, front-sets}
+use Rattle.octets.proofs.Questions.{passed, failed, none-fails, refusal}
 use Rattle.patterns.specs.declared.PatternsDetected.{PatternsDetected}
 use Rattle.patterns.specs.declared.PatternsDetected.the-variants.{Count, Refused}
 use Rattle.patterns.specs.Entries.{entries, numbers}
@@ -20,19 +20,20 @@ use Rattle.patterns.proofs.Laws.{shown-padding, shown-texts}
 
 module _ (s out : List ℕ) where
   -- the answer, the lent list afterwards, and the promises
+  abbrev Promised : PatternsDetected → List ℕ → Type 0
+  Promised r l = Shows 1 (Padding s) r l × Shows 2 (Text s) r l
+
   abbrev Detected : PatternsDetected → List ℕ → Type 0
-  Detected r l = (r ≡ patternsAnswer s out) × ((l ≡ patternsOutput s out) × (Shows 1 (Padding s) r l × Shows 2 (Text s) r l))
+  Detected r l = (r ≡ patternsAnswer s out) × ((l ≡ patternsOutput s out) × Promised r l)
 
   -- a refusal counts nothing
   none-shown : {pattern q : ℕ} {P : ℕ → ℕ → ℕ → Type 0} → Shows pattern P (Refused q) out
   none-shown n e = let z : _≡_ {A = ℕ} 0 1 = cc in absurd (omega arith)
 
   refuses : {q : ℕ} → q ≡ patternsQuestion s out → (q ≡ 0 → ⊥) → Detected (Refused q) out
-  unfolding patternsAnswer patternsOutput writeOutput
-  refuses asked fails = (
-    refusal Refused (Count (length (entries s))) asked fails,
-    (refusal (λ _. out) (atFront (numbers (entries s)) out) asked fails, (none-shown, none-shown)),
-  )
+  unfolding patternsAnswer patternsOutput
+  refuses asked fails =
+      left-refused Refused (Count (length (entries s))) Promised (numbers (entries s)) out (λ k. (none-shown, none-shown)) asked fails
 
   pub too-long : 65535 < length s → Detected (Refused 31) out
   unfolding patternsQuestion patternsQuestions
@@ -51,17 +52,13 @@ module _ (s out : List ℕ) where
     shows front shown k e = let c : k ≡ n = cc in rw (c ∙ count, front) shown
 
     pub all-fit : {i : ℕ} {l : List ℕ} → 4 * n ≤ length out → Wrote 0 (entries s) out i l → Detected (Count n) l
-    unfolding patternsAnswer patternsOutput writeOutput patternsQuestion patternsQuestions atFront
+    unfolding patternsAnswer patternsOutput patternsQuestion patternsQuestions atFront
     all-fit {i} {l} h w =
         let rest : List ℕ = drop (length (numbers (entries s))) out in
         let room : 4 * length (entries s) ≤ length out = omega arith in
         let none : patternsQuestion s out ≡ 0
         = none-fails (patternsQuestions s out) (le-leb (length s) 65535 short, (le-leb (4 * length (entries s)) (length out) room, tt)) in
         let front : l ≡ atFront (numbers (entries s)) out
-        = w .list ∙ front-sets [] (numbers (entries s)) out {l = out} {n = 0} refl refl (omega (arith, length-numbers (entries s))) in (
-          ap Count count ∙ sym (answered-value Refused (Count (length (entries s))) none),
-          (
-            front ∙ sym (answered-value (λ _. out) (atFront (numbers (entries s)) out) none),
-            (shows front (shown-padding s rest), shows front (shown-texts s rest)),
-          ),
-        )
+        = w .list ∙ front-sets [] (numbers (entries s)) out {l = out} {n = 0} refl refl (omega (arith, length-numbers (entries s))) in
+        left-written Refused (Count (length (entries s))) Promised (numbers (entries s)) out none (ap Count count) front
+        (shows front (shown-padding s rest), shows front (shown-texts s rest))

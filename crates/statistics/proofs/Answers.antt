@@ -1,11 +1,12 @@
 -- What the statistics are, and what the answer promises of them.
 -- Assumes nothing.
 use mathlib.Core.Path.{_≡_, refl, ap, _∙_}
-use Prim.Native.Nat.{ℕ, _≤_, _<_, _^_}
+use Prim.Native.Nat.{ℕ, _≤_, _<_}
 use native.Mathlib.Omega.{arith}
 use mathlib.Core.List.{List, []}
 use lib.ListN.{length, getD}
 use borrow.Author.Tests.{le-leb, lt-leb}
+use Rattle.octets.proofs.Parts.{Octets}
 use Rattle.octets.proofs.Questions.{passed, failed, ended, refusal, acceptance}
 use Rattle.runs.specs.Longest.{longest}
 use Rattle.runs.specs.declared.Run.{Run}
@@ -52,7 +53,7 @@ module _ (s : List ℕ) where
       none : {A : Type 0} → Refused 31 ≡ Calculated → A
       none e = let z : _≡_ {A = ℕ} 0 1 = cc in absurd (omega arith)
 
-  module _ (octets : (i : ℕ) → getD s i 0 < 2 ^ 8) where
+  module _ (octets : Octets s) where
     -- the promises hold of the statistics
     holds : Holds (frameStatistics s)
     unfolding frameStatistics nullBytes longestRun

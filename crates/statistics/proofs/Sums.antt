@@ -1,7 +1,7 @@
 -- Sums of counts: the counts of some values in a row are the count of the octets between the first and the last.
 -- Assumes nothing.
 use mathlib.Core.Path.{_≡_, refl, sym, ap, _∙_}
-use Prim.Native.Nat.{ℕ, zero, suc, _+_, _≤_, _<_, _^_}
+use Prim.Native.Nat.{ℕ, zero, suc, _+_, _≤_, _<_}
 use native.Mathlib.Omega.{arith}
 use native.Mathlib.Numerals.{add-one}
 use mathlib.Core.Bool.{Bool, true, false, cond, _&&_, and-true}
@@ -11,6 +11,7 @@ use lib.ListN.{length, getD, take, drop, drop-of-length-le}
 use lib.Seq.{drop-cons}
 use borrow.Author.Tests.{le-leb, lt-leb, leb-true, leb-false}
 use Rattle.octets.specs.Range.{within}
+use Rattle.octets.proofs.Parts.{Octets}
 use Rattle.runs.specs.Front.{is, count}
 use Rattle.runs.proofs.Front.{is-true, is-false, is-ne, within-same}
 use Rattle.runs.proofs.Count.{count-le, count-all, count-alike, count-join}
@@ -53,7 +54,7 @@ counts-total s a (suc n) b e =
     let join = count-join (is a) (within (suc a) b) (within a b) (λ y. first-or-above a b y (omega arith)) s in
     omega (arith, counts-total s (suc a) n b (omega arith))
 
-module _ (s : List ℕ) (octets : (i : ℕ) → getD s i 0 < 2 ^ 8) where
+module _ (s : List ℕ) (octets : Octets s) where
   -- an octet is low to FF where it is low or more
   up-to-ff : (low i : ℕ) → within low 0xFF (getD s i 0) ≡ leb low (getD s i 0)
   unfolding within

@@ -3,10 +3,11 @@
 use mathlib.Core.Path.{_≡_, _∙_}
 use mathlib.Core.Bool.{Bool, true}
 use mathlib.Core.List.{List, [], foldl}
-use Prim.Native.Nat.{ℕ, _≤_, _<_, _^_}
+use Prim.Native.Nat.{ℕ, _≤_, _<_}
 use native.Mathlib.Omega.{arith}
 use lib.Dec.{eqb}
-use lib.ListN.{length, getD}
+use lib.ListN.{length}
+use Rattle.octets.proofs.Parts.{Octets}
 use Rattle.findings.specs.declared.LinkType.the-variants.{Ethernet}
 use Rattle.findings.specs.declared.ValidationResult.{ValidationResult}
 use Rattle.findings.specs.Finding.{frameTooShort, unusualFrameSize, nonStandardConfiguration, multicastAddress}
@@ -16,7 +17,7 @@ use Rattle.validation_ethernet.specs.Tests.{errorTests, multicast, warni
 use Rattle.validation_ethernet.specs.Validity.{AgreesWithEthernet}
 use Rattle.validation_ethernet.proofs.Validity.{agrees-with-ethernet}
 
-module _ (s : List ℕ) (octets : (i : ℕ) → getD s i 0 < 2 ^ 8) where
+module _ (s : List ℕ) (octets : Octets s) where
   abbrev Answer : ValidationResult → Type 0
   Answer r = (r ≡ ethernetResult s) × AgreesWithEthernet s (r .«is_valid»)
 

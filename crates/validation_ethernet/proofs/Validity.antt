@@ -3,7 +3,7 @@
 use mathlib.Core.Path.{_≡_, sym, ap, _∙_}
 use mathlib.Core.Bool.{not, true, and-assoc}
 use mathlib.Core.List.{List}
-use Prim.Native.Nat.{ℕ, _<_, _^_}
+use Prim.Native.Nat.{ℕ}
 use native.Mathlib.Omega.{arith}
 use borrow.Author.Tests.{eq-eqb, eqb-true, le-leb, leb-true, le-ltb, ltb-false, not-false}
 use lib.Dec.{eqb}
@@ -11,6 +11,7 @@ use lib.ListN.{length, getD}
 use Rattle.octets.specs.Number.{number}
 use Rattle.octets.specs.Question.{firstNo}
 use Rattle.octets.proofs.Numbers.{same-number}
+use Rattle.octets.proofs.Parts.{Octets}
 use Rattle.octets.proofs.Questions.{all-yes, none-fails}
 use Rattle.octets.proofs.Tests.{same-test}
 use Rattle.ethernet_decode.specs.Frame.{bacnetType}
@@ -19,7 +20,7 @@ use Rattle.findings.proofs.Valid.{valid, valid-if}
 use Rattle.validation_ethernet.specs.Tests.{llc, errorTests, ethernetErrors}
 use Rattle.validation_ethernet.specs.Validity.{AgreesWithEthernet}
 
-module _ (s : List ℕ) (octets : (i : ℕ) → getD s i 0 < 2 ^ 8) where
+module _ (s : List ℕ) (octets : Octets s) where
   -- the LLC header as one number, and octet by octet
   llc-test : eqb (llc s) 0x828203 ≡ llcRight s
   unfolding llc llcRight

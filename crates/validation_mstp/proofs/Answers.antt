@@ -3,10 +3,11 @@
 use mathlib.Core.Path.{_≡_, _∙_}
 use mathlib.Core.Bool.{Bool, true}
 use mathlib.Core.List.{List, [], foldl}
-use Prim.Native.Nat.{ℕ, _≤_, _<_, _^_}
+use Prim.Native.Nat.{ℕ, _≤_, _<_}
 use native.Mathlib.Omega.{arith}
 use lib.Dec.{leb}
-use lib.ListN.{length, getD}
+use lib.ListN.{length}
+use Rattle.octets.proofs.Parts.{Octets}
 use Rattle.crc.specs.declared.CheckRule.{CheckRule}
 use Rattle.mstp_decode.specs.Decode.{frameType, destinationOf, sourceOf}
 use Rattle.findings.specs.declared.LinkType.the-variants.{MsTP}
@@ -18,7 +19,7 @@ use Rattle.validation_mstp.specs.Tests.{errorTests, masterToSlave, warni
 use Rattle.validation_mstp.specs.Validity.{ValidAsRead}
 use Rattle.validation_mstp.proofs.Validity.{valid-as-read}
 
-module _ (rule : CheckRule) (s : List ℕ) (octets : (i : ℕ) → getD s i 0 < 2 ^ 8) where
+module _ (rule : CheckRule) (s : List ℕ) (octets : Octets s) where
   abbrev Answer : ValidationResult → Type 0
   Answer r = (r ≡ mstpResult rule s) × ValidAsRead rule s (r .«is_valid»)
 

@@ -3,7 +3,7 @@
 use mathlib.Core.Path.{_≡_, refl, sym, ap, _∙_}
 use mathlib.Core.Bool.{Bool, true, false, _&&_, _||_, not}
 use mathlib.Core.List.{List}
-use Prim.Native.Nat.{ℕ, _<_, _^_}
+use Prim.Native.Nat.{ℕ}
 use native.Mathlib.Omega.{arith}
 use borrow.Author.Tests.{eq-eqb, eqb-true, eqb-false, le-leb, lt-leb, leb-true, leb-false, lt-ltb, le-ltb, ltb-false, not-true, not-false}
 use lib.Dec.{eqb, leb, ltb}
@@ -11,6 +11,7 @@ use lib.ListN.{length, getD}
 use Rattle.octets.specs.Range.{within}
 use Rattle.octets.specs.Question.{firstNo, excusing}
 use Rattle.octets.proofs.Numbers.{same-number}
+use Rattle.octets.proofs.Parts.{Octets}
 use Rattle.octets.proofs.Questions.{all-yes, none-fails}
 use Rattle.octets.proofs.Tests.{both-true, same-test}
 use Rattle.crc.specs.Rule.{dataCheck}
@@ -70,7 +71,7 @@ module _ (rule : CheckRule) (s : List ℕ) where
           )
 
   -- so it is where no test of errors fires
-  module _ (octets : (i : ℕ) → getD s i 0 < 2 ^ 8) where
+  module _ (octets : Octets s) where
     preamble-test : eqb (preamble s) 0x55FF ≡ beginsPreamble s
     unfolding beginsPreamble
     preamble-test = same-number (getD s 0 0) (getD s 1 0) 0x55 0xFF (octets 1) (omega arith)
@@ -141,7 +142,7 @@ module _ (rule : CheckRule) (s : List ℕ) where
       }
 
 -- valid are exactly the octets that pass, with a source other than 255 and at most 501 data octets
-pub valid-as-read : (rule : CheckRule) (s : List ℕ) → ((i : ℕ) → getD s i 0 < 2 ^ 8) → ValidAsRead rule s (eqb (length (mstpErrors rule s)) 0)
+pub valid-as-read : (rule : CheckRule) (s : List ℕ) → Octets s → ValidAsRead rule s (eqb (length (mstpErrors rule s)) 0)
 valid-as-read rule s octets =
     same-test (eqb (length (mstpErrors rule s)) 0) (read rule s) (λ e. right-read rule s (right rule s octets e))
     (λ e. no-errors rule s octets (read-right rule s e))

@@ -14,6 +14,7 @@ use findings::NON_STANDARD_CONFIGURATION;
 use findings::PAYLOAD_SIZE_MISMATCH;
 use findings::PROPRIETARY_TYPE;
 use findings::ValidationResult;
+use mstp_frame::MSTP_BROADCAST;
 use mstp_frame::MSTP_HEADER_SIZE;
 use mstp_frame::MSTP_MAX_DATA_LENGTH;
 ghost use mathlib.Core.Path.{_≡_};
@@ -28,9 +29,6 @@ ghost use Rattle.validation_mstp.specs.Validity.{ValidAsRead};
 
 // The preamble as one number.
 const MSTP_PREAMBLE: usize = 0x55FF;
-
-// The broadcast address.
-const MSTP_BROADCAST: u8 = 255;
 
 // The result with an error more where the data check is there and wrong.
 fn data_check_error(
