@@ -1,0 +1,3 @@
+pub mod Acceptables
+pub mod Searches
+pub mod Turns

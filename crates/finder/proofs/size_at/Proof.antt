@@ -1,0 +1,51 @@
+-- `finder::size_at` meets its contract: the length stands in octets 5 and 6 of a header.
+-- Assumes nothing.
+use native.Mathlib.Omega.{arith}
+use lib.ListN.{length-drop}
+use Rattle.finder.proofs.Turns.{size-said}
+use borrow.Author.Needs.{needs}
+use Rattle.finder.proofs.size_at.Statement.{statement}
+use Rattle.finder.proofs.size_at.Tie as tie
+
+sub-if1 : tie.Need-sub-if1
+sub-if1 c = search needs
+
+returns : tie.Need-returns
+returns c =
+    let a = c .before .before .args in
+    record { least = omega arith; said = λ long. absurd (omega (arith, length-drop (a .p) (a .run .now))) }
+
+add-number : tie.Need-add-number
+add-number c = search needs
+
+shared-slice-read-number : tie.Need-shared-slice-read-number
+shared-slice-read-number c = search needs
+
+add-number-2 : tie.Need-add-number-2
+add-number-2 c = search needs
+
+shared-slice-read-number-2 : tie.Need-shared-slice-read-number-2
+shared-slice-read-number-2 c = search needs
+
+number-requires : tie.Need-number-requires
+number-requires c κs = search needs
+
+frame-size-requires : tie.Need-frame-size-requires
+frame-size-requires c κs = search needs
+
+returns-2 : tie.Need-returns-2
+returns-2 c = size-said _ _ (c .before .number .ensures) (c .frame-size .ensures .0) (c .frame-size .ensures .1)
+
+pub size-at-spec : {M : Type 1} → statement M
+size-at-spec =
+    tie.close
+    (tie.spec
+    sub-if1
+    returns
+    add-number
+    shared-slice-read-number
+    add-number-2
+    shared-slice-read-number-2
+    number-requires
+    frame-size-requires
+    returns-2)

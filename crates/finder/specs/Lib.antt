@@ -1,0 +1,4 @@
+pub mod Acceptable
+pub mod Search
+pub mod Found
+pub mod Steps

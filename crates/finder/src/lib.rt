@@ -1,0 +1,101 @@
+// The finder: the first acceptable MS/TP frame of a run from a place on, under either check rule.
+use crc::CheckRule;
+use mstp_decode::MstpDecoded;
+use mstp_frame::MSTP_BROADCAST;
+use mstp_frame::MSTP_HEADER_SIZE;
+use mstp_frame::MSTP_MAX_DATA_LENGTH;
+use mstp_frame::MSTP_PREAMBLE_55;
+use runs::MAX_OCTETS;
+ghost use mathlib.Core.Path.{_≡_};
+ghost use Prim.Native.Nat.{_<_};
+ghost use lib.ListN.{length};
+ghost use Rattle.finder.specs.Acceptable.{acceptable};
+ghost use Rattle.finder.specs.Search.{find};
+ghost use Rattle.finder.specs.Found.{Found};
+ghost use Rattle.finder.specs.Steps.{NoneBefore, SizeAt};
+
+// A frame found in a run: its place and its octet count.
+pub struct Report {
+    pub place: usize,
+    pub count: usize,
+}
+
+// What the finder answers: a report, "none", or the number of the first question that failed.
+pub enum FrameFound {
+    Frame(Report),
+    None,
+    Refused(u8),
+}
+
+// Whether some octets are an acceptable frame: the MS/TP validator has no error for them, and their type is 0 to 7.
+pub fn acceptable(rule: CheckRule, frame: &[u8]) -> bool
+    ensures { λ r. ⌜ r ≡ acceptable rule (now (frame .entry)) ⌝ }
+{
+    if frame.len() < MSTP_HEADER_SIZE {
+        return false;
+    }
+    if frame[4] == MSTP_BROADCAST {
+        return false;
+    }
+    if MSTP_MAX_DATA_LENGTH < octets::number(frame[5], frame[6]) as usize {
+        return false;
+    }
+    match mstp_decode::decode(rule, frame) {
+        MstpDecoded::Frame(_) => true,
+        MstpDecoded::Refused(_) => false,
+    }
+}
+
+// The next octet 55 from a place on, or the end; a place behind the end stays.
+fn next_55(run: &[u8], from: usize) -> usize
+    ensures { λ r. ⌜ NoneBefore (now (run .entry)) from r ⌝ }
+{
+    let mut p = from;
+    while p < run.len() {
+        if run[p] == MSTP_PREAMBLE_55 {
+            return p;
+        }
+        p += 1;
+    }
+    p
+}
+
+// The octet count that the header at a place says; 8, a header's, where fewer octets are left.
+fn size_at(run: &[u8], p: usize) -> usize
+    requires { ⌜ p < length (now run) ⌝ }
+    ensures { λ r. ⌜ SizeAt (now (run .entry)) p r ⌝ }
+{
+    if run.len() - p < MSTP_HEADER_SIZE {
+        return MSTP_HEADER_SIZE;
+    }
+    mstp_frame::frame_size(octets::number(run[p + 5], run[p + 6]))
+}
+
+// The first acceptable frame that starts at a place or later. A report is acceptable, and no acceptable frame starts
+// between the place and it; "none" means that none starts at the place or later.
+pub fn find_frame(rule: CheckRule, run: &[u8], place: usize) -> FrameFound
+    ensures { λ r. ⌜ r ≡ find rule (now (run .entry)) place ⌝ }
+    ensures plain { λ r. ⌜ Found rule (now (run .entry)) place r ⌝ }
+{
+    if MAX_OCTETS < run.len() {
+        return FrameFound::Refused(31);
+    }
+    if run.len() < place {
+        return FrameFound::Refused(33);
+    }
+    let mut p = next_55(run, place);
+    while p < run.len() {
+        let size = size_at(run, p);
+        if run.len() - p < size {
+            p = next_55(run, p + 1); // it would run off the end
+        } else if acceptable(rule, &run[p..p + size]) {
+            return FrameFound::Frame(Report {
+                place: p,
+                count: size,
+            });
+        } else {
+            p = next_55(run, p + 1); // it is broken
+        }
+    }
+    FrameFound::None
+}
