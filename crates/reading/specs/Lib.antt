@@ -1,0 +1,4 @@
+pub mod Reading
+pub mod Answer
+pub mod Demand
+pub mod Example
