@@ -1,0 +1,113 @@
+// The runs that are measured, each kind by its name and the function that makes one.
+
+use crate::datalink::mstp::{MstpFrame, MstpFrameType};
+
+// Makes a run of so many octets.
+type Make = fn(usize) -> Vec<u8>;
+
+pub const KINDS: [(&str, Make); 7] = [
+    ("junk without a head", junk),
+    ("tokens with wrong header checks", broken_tokens),
+    (
+        "headers of 501 data octets with wrong checks",
+        broken_headers,
+    ),
+    (
+        "right headers of 501 data octets, data checks wrong",
+        broken_data,
+    ),
+    ("tokens one behind another", tokens),
+    ("frames of 501 data octets one behind another", long_frames),
+    ("frames among sparks", mixed),
+];
+
+// Octets that look random and are the same in every run: xorshift on 64 bits, from a fixed seed.
+struct Random(u64);
+
+impl Random {
+    fn new() -> Random {
+        Random(0x9E37_79B9_7F4A_7C15)
+    }
+
+    // A number below `n`.
+    fn below(&mut self, n: usize) -> usize {
+        self.0 ^= self.0 << 13;
+        self.0 ^= self.0 >> 7;
+        self.0 ^= self.0 << 17;
+        (self.0 >> 32) as usize % n
+    }
+
+    // So many octets without FF, so that none of them begins a head.
+    fn octets(&mut self, count: usize) -> Vec<u8> {
+        (0..count).map(|_| self.below(255) as u8).collect()
+    }
+}
+
+// A frame as the Rust writes it.
+fn frame(destination: u8, source: u8, data: Vec<u8>) -> Vec<u8> {
+    let kind = match data.is_empty() {
+        true => MstpFrameType::Token,
+        false => MstpFrameType::BacnetDataNotExpectingReply,
+    };
+    MstpFrame::new(kind, destination, source, data)
+        .expect("at most 501 data octets")
+        .encode()
+}
+
+// The first eight octets of a frame of 501 data octets.
+fn long_header() -> Vec<u8> {
+    frame(16, 5, vec![0x11; 501])[..8].to_vec()
+}
+
+// Some octets with the last one changed.
+fn broken(mut octets: Vec<u8>) -> Vec<u8> {
+    *octets.last_mut().expect("an octet") ^= 0x10;
+    octets
+}
+
+// The octets over and over, cut to so many.
+fn over_and_over(octets: Vec<u8>, count: usize) -> Vec<u8> {
+    octets.into_iter().cycle().take(count).collect()
+}
+
+fn junk(count: usize) -> Vec<u8> {
+    Random::new().octets(count)
+}
+
+fn broken_tokens(count: usize) -> Vec<u8> {
+    over_and_over(broken(frame(16, 5, Vec::new())), count)
+}
+
+fn broken_headers(count: usize) -> Vec<u8> {
+    over_and_over(broken(long_header()), count)
+}
+
+fn broken_data(count: usize) -> Vec<u8> {
+    over_and_over(long_header(), count)
+}
+
+fn tokens(count: usize) -> Vec<u8> {
+    over_and_over(frame(16, 5, Vec::new()), count)
+}
+
+fn long_frames(count: usize) -> Vec<u8> {
+    over_and_over(frame(16, 5, vec![0x11; 501]), count)
+}
+
+// Noise, tokens, frames of some data, and the same with an octet changed, in a random order.
+fn mixed(count: usize) -> Vec<u8> {
+    let mut random = Random::new();
+    let mut run = Vec::new();
+    while run.len() < count {
+        let size = [0, 1 + random.below(40), 1 + random.below(501)][random.below(3)];
+        let data = random.octets(size);
+        let good = frame(random.below(128) as u8, random.below(128) as u8, data);
+        run.extend(match random.below(4) {
+            0 => random.octets(60),
+            1 => broken(good),
+            _ => good,
+        });
+    }
+    run.truncate(count);
+    run
+}
