@@ -114,7 +114,7 @@ module _ (s : List ℕ) where
     own-size e = facts rule (ownOctets s) own-octets e .read .size ∙ ap frameSize own-length
 
     -- no other front of s is acceptable
-    pub only-own : (n : ℕ) → acceptable rule (take n s) ≡ true → take n s ≡ ownOctets s
+    only-own : (n : ℕ) → acceptable rule (take n s) ≡ true → take n s ≡ ownOctets s
     unfolding ownOctets
     only-own n e =
         let a = facts rule (take n s) (octets-take n s octets) e .read in

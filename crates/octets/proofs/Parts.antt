@@ -1,11 +1,12 @@
 -- Parts of a list of octets, one by one.
 -- Assumes nothing.
 use mathlib.Core.Path.{_≡_, refl, sym, ap, subst, _∙_}
-use mathlib.Core.List.{List, [], _∷_, _++_}
-use Prim.Native.Nat.{ℕ, zero, suc, _+_, _≤_, _<_, _^_}
+use mathlib.Core.List.{List, [], _∷_, _++_, flatMap}
+use Prim.Native.Nat.{ℕ, zero, suc, _+_, _*_, _≤_, _<_, _^_}
 use native.Mathlib.Decide.{decLe}
+use native.Mathlib.Nat.{mul-zero, mul-suc}
 use native.Mathlib.Omega.{arith}
-use lib.ListN.{length, getD, take, drop, length-take, take-append-drop, List·getD-eq-default}
+use lib.ListN.{length, getD, take, drop, length-append, length-take, take-append-drop, List·getD-eq-default}
 use lib.Seq.{drop-cons, take-all, getD-take, getD-drop, getD-append-add, take-append-seam}
 
 -- n octets from place i on
@@ -33,6 +34,12 @@ front-is n s h =
 pub none-is : {A : Type 0} (s : List A) → length s ≡ 0 → s ≡ []
 none-is [] h = refl
 none-is (x ∷ s) h = absurd (omega arith)
+
+-- lists of k numbers each, one behind another
+pub length-flat : {A : Type 0} (f : A → List ℕ) (k : ℕ) → ((x : A) → length (f x) ≡ k) → (xs : List A) → length (flatMap f xs) ≡ k * length xs
+unfolding flatMap
+length-flat f k each [] = sym (mul-zero k)
+length-flat f k each (x ∷ xs) = rw (length-append (f x) (flatMap f xs), each x, length-flat f k each xs, mul-suc k (length xs)) (omega arith)
 
 -- each element is an octet
 abbrev pub Octets : List ℕ → Type 0

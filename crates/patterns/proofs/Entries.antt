@@ -11,6 +11,7 @@ use borrow.Author.Tests.{eq-eqb, ne-eqb}
 use lib.Dec.{leb}
 use lib.ListN.{length, getD, set, drop, length-append, length-drop, drop-of-length-le}
 use lib.Seq.{sets, length-sets, drop-cons}
+use Rattle.octets.proofs.Parts.{length-flat}
 use Rattle.runs.specs.Front.{front}
 use Rattle.runs.proofs.Front.{front-le, front-stop}
 use Rattle.patterns.specs.declared.Entry.{Entry}
@@ -25,9 +26,8 @@ flat-append f [] ys = refl
 flat-append f (x ∷ xs) ys = rw (flat-append f xs ys) (sym (append-assoc (f x) (flatMap f xs) (flatMap f ys)))
 
 pub length-numbers : (es : List Entry) → length (numbers es) ≡ 4 * length es
-unfolding numbers flatMap
-length-numbers [] = refl
-length-numbers (e ∷ es) = let h = length-numbers es in omega arith
+unfolding numbers
+length-numbers es = length-flat numbersOf 4 (λ e. refl) es
 
 pub length-when : (b : Bool) (e : Entry) → length (when b e) ≡ cond b 1 0
 unfolding when

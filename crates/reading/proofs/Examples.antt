@@ -4,7 +4,7 @@ use mathlib.Core.Path.{_≡_, refl, sym, ap, _∙_}
 use mathlib.Core.Bool.{Bool, true, false, not, _&&_}
 use mathlib.Core.List.{List, [], _∷_, flatten}
 use Prim.Native.Nat.{ℕ, zero, suc, _<_}
-use native.Mathlib.Numerals.{add-one}
+use native.Mathlib.Nat.{suc-add}
 use native.Mathlib.Omega.{arith}
 use borrow.Author.Tests.{eq-eqb, ltb-true, not-true}
 use lib.Dec.{eqb, ltb}
@@ -23,6 +23,7 @@ use Rattle.finder.specs.Acceptable.{acceptable, ownOctets}
 use Rattle.finder.specs.Search.{search, findQuestions, find}
 use Rattle.reading.specs.Reading.{calls, reading}
 use Rattle.reading.specs.Demand.{frameOf, HeadOnce, startingFrom}
+use Rattle.reading.proofs.Late.{NoHead}
 use Rattle.reading.specs.Example.{overlapped, token, run, Example}
 
 -- 55 FF stands nowhere in some octets, as a test
@@ -30,7 +31,7 @@ unfoldable noHead : List ℕ → Bool
 noHead [] = true
 noHead (x ∷ s) = not (eqb x 0x55 && eqb (getD s 0 0) 0xFF) && noHead s
 
-no-head : (s : List ℕ) → noHead s ≡ true → (i : ℕ) → getD s i 0 ≡ 0x55 → getD s (suc i) 0 ≡ 0xFF → ⊥
+no-head : (s : List ℕ) → noHead s ≡ true → NoHead s
 unfolding noHead
 no-head [] none i here next = omega arith
 no-head (x ∷ s) none zero here next =
@@ -40,13 +41,13 @@ no-head (x ∷ s) none zero here next =
     let z : _≡_ {A = ℕ} 0 1 = cc in
     omega arith
 no-head (x ∷ s) none (suc i) here next =
-    no-head s (both-true (not (eqb x 0x55 && eqb (getD s 0 0) 0xFF)) (noHead s) none .1) i here next
+    no-head s (both-true (not (eqb x 0x55 && eqb (getD s 0 0) 0xFF)) (noHead s) none .1) i here (rw (suc-add i 1) at next)
 
 -- behind a frame's first octet
 once : (f : List ℕ) → noHead (drop 1 f) ≡ true → HeadOnce f
 once f none zero here next = refl
 once [] none (suc i) here next = absurd (omega arith)
-once (x ∷ s) none (suc i) here next = absurd (no-head s none i here (rw (add-one (suc i)) at next))
+once (x ∷ s) none (suc i) here next = absurd (no-head s none i here (rw (suc-add i 1) at next))
 
 -- all elements of a list are octets, as a test
 unfoldable allOctets : List ℕ → Bool

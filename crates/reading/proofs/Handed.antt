@@ -3,15 +3,14 @@
 use mathlib.Core.Path.{_≡_, refl, ap}
 use mathlib.Core.List.{List, [], _∷_, _++_, flatMap}
 use Prim.Native.Nat.{ℕ, _*_}
-use native.Mathlib.Omega.{arith}
 use lib.ListN.{length}
+use Rattle.octets.proofs.Parts.{length-flat}
 use Rattle.finder.specs.declared.Report.{Report}
 use Rattle.reading.specs.Answer.{numbers, reportsIn}
 
 pub length-numbers : (rs : List Report) → length (numbers rs) ≡ 2 * length rs
-unfolding numbers flatMap
-length-numbers [] = refl
-length-numbers (r ∷ rs) = omega (arith, length-numbers rs)
+unfolding numbers
+length-numbers rs = length-flat (λ (r : Report). r .place ∷ r .count ∷ []) 2 (λ r. refl) rs
 
 pub reports-back : (rs : List Report) (rest : List ℕ) → reportsIn (length rs) (numbers rs ++ rest) ≡ rs
 unfolding numbers flatMap

@@ -19,7 +19,7 @@ use Rattle.reading.proofs.Frames.{own-begins, own-most, Stands}
 use Rattle.reading.proofs.Pass.{pass}
 
 -- 55 FF stands nowhere
-abbrev NoHead : List ℕ → Type 0
+abbrev pub NoHead : List ℕ → Type 0
 NoHead v = (i : ℕ) → getD v i 0 ≡ 0x55 → getD v (i + 1) 0 ≡ 0xFF → ⊥
 
 tail-none : (x : ℕ) (v : List ℕ) → NoHead (x ∷ v) → NoHead v

@@ -85,7 +85,7 @@ module _ (rule : CheckRule) (run : List ℕ) where
 
       reading-ends : Reading rule run 0 (reading rule run)
       unfolding reading
-      reading-ends = calls-end (suc (length run)) 0 (omega arith) (omega arith)
+      reading-ends = calls-end _ 0 (omega arith) (omega arith)
 
       read-rest : {place : ℕ} {rs : List Report} → place ≤ length run → Reading rule run place rs → rs ≡ rest rule run place
       read-rest {place} within (end e) = sym (rest-find place within ∙ rw e)
