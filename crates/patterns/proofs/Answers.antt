@@ -8,7 +8,7 @@ use borrow.Author.Tests.{le-leb, lt-leb}
 use lib.ListN.{length, drop}
 use Rattle.octets.specs.Output.{atFront}
 use Rattle.octets.proofs.Outputs.{left-refused, left-written, front-sets}
-use Rattle.octets.proofs.Questions.{passed, failed, none-fails, refusal}
+use Rattle.octets.proofs.Questions.{passed, failed, none-fails}
 use Rattle.patterns.specs.declared.PatternsDetected.{PatternsDetected}
 use Rattle.patterns.specs.declared.PatternsDetected.the-variants.{Count, Refused}
 use Rattle.patterns.specs.Entries.{entries, numbers}

@@ -4,13 +4,13 @@ use mathlib.Core.Path.{_≡_, refl, sym, ap, _∙_}
 use mathlib.Core.Bool.{Bool, true, false, cond}
 use mathlib.Core.List.{List, [], _∷_, _++_, flatMap, append-assoc, append-nil}
 use Prim.Native.Nat.{ℕ, suc, _+_, _*_, _-_, _≤_, _<_}
-use native.Mathlib.Nat.{add-zero}
 use native.Mathlib.Numerals.{add-one}
 use native.Mathlib.Omega.{arith}
 use borrow.Author.Tests.{eq-eqb, ne-eqb}
 use lib.Dec.{leb}
 use lib.ListN.{length, getD, set, drop, length-append, length-drop, drop-of-length-le}
 use lib.Seq.{sets, length-sets, drop-cons}
+use Rattle.octets.proofs.Outputs.{sets-append}
 use Rattle.octets.proofs.Parts.{length-flat}
 use Rattle.runs.specs.Front.{front}
 use Rattle.runs.proofs.Front.{front-le, front-stop}
@@ -33,13 +33,6 @@ pub length-when : (b : Bool) (e : Entry) → length (when b e) ≡ cond b 1 0
 unfolding when
 length-when true e = refl
 length-when false e = refl
-
--- two lists stored one behind the other are one list stored
-sets-append : (l : List ℕ) (i : ℕ) (xs ys : List ℕ) → sets l i (xs ++ ys) ≡ sets (sets l i xs) (i + length xs) ys
-sets-append l i [] ys = rw (add-zero i)
-sets-append l i (x ∷ xs) ys =
-    let z : suc i + length xs ≡ i + suc (length xs) = omega arith in
-    sets-append (set l i x) (suc i) xs ys ∙ rw z
 
 -- one entry
 
