@@ -1,0 +1,18 @@
+// Lists the log on standard input, newest record first: `listing` decides what is printed. Where the log can't be read,
+// nothing is printed and standard error has a message.
+use libc::STDERR_FILENO;
+use libc::STDIN_FILENO;
+use list_input::InputListed;
+
+// Says why there is no listing.
+fn complain(message: &[u8]) {
+    io::write_all(STDERR_FILENO, message);
+}
+
+fn main() {
+    match list_input::list_input(STDIN_FILENO) {
+        InputListed::Printed => {}
+        InputListed::NotRead => complain(b"buslog: standard input cannot be read\n"),
+        InputListed::NotWritten => complain(b"buslog: standard output cannot be written\n"),
+    }
+}

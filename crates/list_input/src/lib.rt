@@ -1,0 +1,49 @@
+// Lists the log that a descriptor has: reads it to its end, and prints the text that `listing` has for it.
+mod input;
+
+use input::InputRead;
+use libc::STDOUT_FILENO;
+use listing::MAX_LOG;
+use listing::MAX_TEXT;
+ghost use mathlib.Core.Path.{_≡_};
+ghost use lib.ListN.{length};
+
+// What came of it: the text is printed; the descriptor can't be read, and nothing is printed; or the text can't be written.
+pub enum InputListed {
+    Printed,
+    NotRead,
+    NotWritten,
+}
+
+// Room for the longest log and one octet more, which tells a longer one. The `ensures` gives what lending it needs.
+fn space() -> [u8; MAX_LOG + 1]
+    ensures { λ r. ⌜ 65537 ≡ length r ⌝ }
+{
+    [0; MAX_LOG + 1]
+}
+
+// Room for the longest text.
+fn text_space() -> [u8; MAX_TEXT]
+    ensures { λ r. ⌜ 393227 ≡ length r ⌝ }
+{
+    [0; MAX_TEXT]
+}
+
+// Prints the text of a log.
+fn print(log: &[u8]) -> InputListed {
+    let mut text = text_space();
+    let n = listing::list_log(log, &mut text);
+    if io::write_all(STDOUT_FILENO, &text[..n]) {
+        return InputListed::Printed;
+    }
+    InputListed::NotWritten
+}
+
+// Lists the log that a descriptor has. Which of the three it comes to is free: no contract can say what is read or written.
+pub fn list_input(fd: i32) -> InputListed {
+    let mut log = space();
+    match input::read_to_end(fd, &mut log) {
+        InputRead::Count(n) => print(&log[..n]),
+        InputRead::Failed => InputListed::NotRead,
+    }
+}
