@@ -11,7 +11,7 @@ fn complain(message: &[u8]) {
 
 fn main() {
     match list_input::list_input(STDIN_FILENO) {
-        InputListed::Printed => {}
+        InputListed::Printed(_) => {}
         InputListed::NotRead => complain(b"buslog: standard input cannot be read\n"),
         InputListed::NotWritten => complain(b"buslog: standard output cannot be written\n"),
     }

@@ -11,7 +11,7 @@ fn print(letters: &[u8]) {
 // Lists what a descriptor has.
 fn list_from(fd: i32) {
     match list_input::list_input(fd) {
-        InputListed::Printed => {}
+        InputListed::Printed(_) => {}
         InputListed::NotRead => print(b"not read\n"),
         InputListed::NotWritten => {}
     }

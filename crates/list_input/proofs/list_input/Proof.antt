@@ -1,11 +1,12 @@
--- `list_input::list_input` is safe and ends: what was read is within the room.
+-- `list_input::list_input` meets its contract: what was read is within the room, and what is printed is its text.
 -- Assumes nothing.
-use mathlib.Core.Path.{subst}
+use mathlib.Core.Path.{_≡_, sym, subst, _∙_}
 use Prim.Native.Nat.{_≤_}
 use lib.ListN.{length}
 use Rattle.io.proofs.Counting.{counts}
 use Rattle.list_input.specs.Room.{Fits}
 use Rattle.list_input.specs.declared.input.InputRead.{InputRead}
+use Rattle.list_input.proofs.Prints.{what-came}
 use borrow.Author.Needs.{needs}
 use Rattle.list_input.proofs.list_input.Statement.{statement}
 use Rattle.list_input.proofs.list_input.Tie as tie
@@ -40,7 +41,11 @@ enum-told : tie.Need-enum-told
 enum-told c = search needs
 
 returns : tie.Need-returns
-returns c = search needs
+returns c =
+    let a = c .before .before .before in
+    let came = a .before .before .before in
+    let size : length (came .read-to-end .last .1 .0) ≡ 65537 = came .read-to-end .kept .1 .0 ∙ sym (came .before .before .space .ensures) in
+    what-came (came .read-to-end .last .1 .0) (a .n .given .0 .0) size (fits a) (c .print .result) (c .print .ensures)
 
 returns-2 : tie.Need-returns-2
 returns-2 c = search needs

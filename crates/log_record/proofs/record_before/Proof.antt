@@ -58,26 +58,18 @@ add-size c = search needs
 
 returns-4 : tie.Need-returns-4
 returns-4 c =
-    let g = c .before in
-    let p = g .before in
-    let n = p .before in
-    let f = n .before .before .before in
-    let k = f .before in
-    let e = k .before .before in
-    let s = e .before .before in
-    no-octets _ _ (s .pre .0) (s .pre .1) (e .if1 .left) (k .known-kind .ensures) (not-false _ (f .if2 .left)) (n .number .ensures) (p .payload-size .ensures) (not-false _ (g .if3 .left))
+    let number = c .before .before .before in
+    let kind = number .before .before .before .before in
+    let start = kind .before .before in
+    no-octets _ _ (start .before .before .pre .0) (start .before .before .pre .1) (start .if1 .left) (kind .known-kind .ensures) (not-false _ (number .before .before .before .if2 .left)) (number .number .ensures) (c .before .before .payload-size .ensures) (not-false _ (c .before .if3 .left))
     (c .if4 .taken)
 
 returns-5 : tie.Need-returns-5
 returns-5 c =
-    let g = c .before in
-    let p = g .before in
-    let n = p .before in
-    let f = n .before .before .before in
-    let k = f .before in
-    let e = k .before .before in
-    let s = e .before .before in
-    reads _ _ (s .pre .0) (s .pre .1) (e .if1 .left) (k .known-kind .ensures) (not-false _ (f .if2 .left)) (n .number .ensures) (p .payload-size .ensures) (not-false _ (g .if3 .left))
+    let number = c .before .before .before in
+    let kind = number .before .before .before .before in
+    let start = kind .before .before in
+    reads _ _ (start .before .before .pre .0) (start .before .before .pre .1) (start .if1 .left) (kind .known-kind .ensures) (not-false _ (number .before .before .before .if2 .left)) (number .number .ensures) (c .before .before .payload-size .ensures) (not-false _ (c .before .if3 .left))
     (c .if4 .left)
 
 pub record-before-spec : {M : Type 1} → statement M
