@@ -2,7 +2,7 @@
 -- Assumes nothing.
 use mathlib.Core.Path.{_≡_, refl, ap, _∙_}
 use mathlib.Core.List.{List, []}
-use Prim.Native.Nat.{ℕ, _*_, _≤_, _<_}
+use Prim.Native.Nat.{ℕ, _*_, _/_, _≤_, _<_}
 use native.Mathlib.Omega.{arith}
 use borrow.Author.Tests.{le-leb, lt-leb}
 use lib.ListN.{length, drop}
@@ -39,26 +39,26 @@ module _ (s out : List ℕ) where
   unfolding patternsQuestion patternsQuestions
   too-long h = refuses (failed 31 _ (lt-leb (length s) 65535 h)) (λ z. omega arith)
 
-  module _ {n : ℕ} (short : length s ≤ 65535) (count : n ≡ length (entries s)) where
-    pub no-room : length out < 4 * n → Detected (Refused 32) out
+  module _ (short : length s ≤ 65535) where
+    pub no-room : length out < 4 * length (entries s) → Detected (Refused 32) out
     unfolding patternsQuestion patternsQuestions
     no-room h =
-        refuses (passed 31 _ (le-leb (length s) 65535 short) (failed 32 _ (lt-leb (4 * length (entries s)) (length out) (omega arith))))
+        refuses (passed 31 _ (le-leb (length s) 65535 short) (failed 32 _ (lt-leb (4 * length (entries s)) (length out) h)))
         (λ z. omega arith)
 
     -- a count counts all entries
-    shows : {pattern : ℕ} {P : ℕ → ℕ → ℕ → Type 0} {l : List ℕ} → l ≡ atFront (numbers (entries s)) out
+    shows : {pattern n : ℕ} {P : ℕ → ℕ → ℕ → Type 0} {l : List ℕ} → n ≡ length (entries s) → l ≡ atFront (numbers (entries s)) out
         → Shown pattern P (length (entries s)) (atFront (numbers (entries s)) out) → Shows pattern P (Count n) l
-    shows front shown k e = let c : k ≡ n = cc in rw (c ∙ count, front) shown
+    shows {n = n} count front shown k e = let c : k ≡ n = cc in rw (c ∙ count, front) shown
 
-    pub all-fit : {i : ℕ} {l : List ℕ} → 4 * n ≤ length out → Wrote 0 (entries s) out i l → Detected (Count n) l
+    pub all-fit : {i : ℕ} {l : List ℕ} → 4 * length (entries s) ≤ length out → Wrote 0 (entries s) out i l → Detected (Count (i / 4)) l
     unfolding patternsAnswer patternsOutput patternsQuestion patternsQuestions atFront
-    all-fit {i} {l} h w =
+    all-fit {i} {l} room w =
         let rest : List ℕ = drop (length (numbers (entries s))) out in
-        let room : 4 * length (entries s) ≤ length out = omega arith in
+        let count : i / 4 ≡ length (entries s) = omega (arith, w .place) in
         let none : patternsQuestion s out ≡ 0
         = none-fails (patternsQuestions s out) (le-leb (length s) 65535 short, (le-leb (4 * length (entries s)) (length out) room, tt)) in
         let front : l ≡ atFront (numbers (entries s)) out
         = w .list ∙ front-sets [] (numbers (entries s)) out {l = out} {n = 0} refl refl (omega (arith, length-numbers (entries s))) in
         left-written Refused (Count (length (entries s))) Promised (numbers (entries s)) out none (ap Count count) front
-        (shows front (shown-padding s rest), shows front (shown-texts s rest))
+        (shows count front (shown-padding s rest), shows count front (shown-texts s rest))

@@ -3,13 +3,13 @@
 use mathlib.Core.Path.{_≡_, refl, sym, ap, _∙_}
 use mathlib.Core.Bool.{Bool, true, false, cond}
 use mathlib.Core.List.{List, [], _∷_, _++_, flatMap, append-assoc, append-nil}
-use Prim.Native.Nat.{ℕ, suc, _+_, _*_, _-_, _≤_, _<_}
+use Prim.Native.Nat.{ℕ, zero, suc, _+_, _*_, _-_, _≤_, _<_}
 use native.Mathlib.Numerals.{add-one}
 use native.Mathlib.Omega.{arith}
-use borrow.Author.Tests.{eq-eqb, ne-eqb}
+use borrow.Author.Tests.{eq-eqb, ne-eqb, leb-true, leb-false}
 use lib.Dec.{leb}
-use lib.ListN.{length, getD, set, drop, length-append, length-drop, drop-of-length-le}
-use lib.Seq.{sets, length-sets, drop-cons}
+use lib.ListN.{length, getD, set, take, drop, length-append, length-drop, drop-of-length-le, take-append-drop}
+use lib.Seq.{sets, length-sets, drop-cons, getD-drop}
 use Rattle.octets.proofs.Outputs.{sets-append}
 use Rattle.octets.proofs.Parts.{length-flat}
 use Rattle.runs.specs.Front.{front}
@@ -18,7 +18,8 @@ use Rattle.patterns.specs.declared.Entry.{Entry}
 use Rattle.patterns.specs.Stretches.{Stretch, stretch, before, stretches}
 use Rattle.patterns.specs.Entries.{entry, when, mark, last, paddingLength, padding, printable, text, texts, hasZeros, startsWith, hasSequence, entries, numbersOf, numbers}
 use Rattle.patterns.specs.Steps.{Wrote}
-use Rattle.patterns.proofs.Stretches.{stretchesOn, on-turn, on-end}
+use Rattle.patterns.proofs.Stretches.{stretchesOn, on-turn, on-end, ended, stretches-past}
+use Rattle.patterns.proofs.Paddings.{padding-le, run-all}
 
 pub flat-append : {A B : Type 0} (f : A → List B) (xs ys : List A) → flatMap f (xs ++ ys) ≡ flatMap f xs ++ flatMap f ys
 unfolding flatMap
@@ -128,7 +129,62 @@ module _ (s : List ℕ) (i : ℕ) where
         let here = when (leb 4 k) (entry 2 i k 0) in
         omega (arith, ap length (texts-turn f), length-append here (textsOn s (i + (k + 1))), length-when (leb 4 k) (entry 2 i k 0))
 
+-- a text and the octet that ends it are at least five
+five : (k : ℕ) (b : Bool) → leb 4 k ≡ b → 5 * cond b 1 0 ≤ k + 1
+five k true e = let l = leb-true 4 k e in omega arith
+five k false e = omega arith
+
+texts-few-on : (s : List ℕ) (m i : ℕ) → length s ≤ i + m → (i < length s → before printable s i ≡ false)
+    → 5 * length (textsOn s i) ≤ length s - i + 1
+texts-few-on s zero i h f = omega (arith, ap length (texts-end s i (omega arith)))
+texts-few-on s (suc m) i h f = go (leb (length s) i) refl (texts-few-on s m)
+  where
+    k : ℕ
+    k = front printable (drop i s)
+
+    go : (b : Bool) → leb (length s) i ≡ b
+        → ((j : ℕ) → length s ≤ j + m → (j < length s → before printable s j ≡ false) → 5 * length (textsOn s j) ≤ length s - j + 1)
+        → 5 * length (textsOn s i) ≤ length s - i + 1
+    go true e more = omega (arith, ap length (texts-end s i (leb-true (length s) i e)))
+    go false e more =
+        let inside = leb-false (length s) i e in
+        omega (
+          arith,
+          count-turn s i k inside refl 0 (f inside) refl refl,
+          five k (leb 4 k) refl,
+          text-ends s i k inside refl,
+          more (i + (k + 1)) (omega arith) (ended printable s i k refl),
+        )
+
+-- the last may end with the frame
+texts-few : (s : List ℕ) → 5 * length (texts s) ≤ length s + 1
+unfolding before
+texts-few s = omega (arith, ap length (texts-all s), texts-few-on s (length s) 0 (omega arith) (λ l. refl))
+
+-- a padding that is not printable adds none
+pub texts-unpadded : (s : List ℕ) {n : ℕ} → n ≡ paddingLength s → printable (last s) ≡ false → texts (take (length s - n) s) ≡ texts s
+unfolding texts
+texts-unpadded s {n} e f =
+    ap (λ (ts : List Stretch). flatMap text ts)
+    (sym (stretches-past printable (take (length s - n) s) (drop (length s - n) s) none) ∙ rw (take-append-drop (length s - n) s))
+  where
+    none : (j : ℕ) → j < length (drop (length s - n) s) → printable (getD (drop (length s - n) s) j 0) ≡ false
+    none j l =
+        let short = length-drop (length s - n) s in
+        rw (getD-drop (length s - n) s j 0, e, run-all s j (omega (arith, padding-le s))) f
+
 -- the entries
+
+one-or-none : (b : Bool) → cond b 1 0 ≤ 1
+one-or-none true = omega arith
+one-or-none false = omega arith
+
+-- at most three are no texts
+pub entries-few : (s : List ℕ) → 5 * length (entries s) ≤ length s + 16
+unfolding entries padding
+entries-few s =
+    simp (length-append, length-when)
+    (omega (arith, texts-few s, one-or-none (leb 4 (paddingLength s)), one-or-none (hasZeros s), one-or-none (hasSequence s)))
 
 pub count-is : (s : List ℕ) {n p t z q : ℕ} {zeros sequence : Bool} → n ≡ paddingLength s → p ≡ cond (leb 4 n) 1 0 → t ≡ length (texts s)
     → zeros ≡ hasZeros s → z ≡ cond zeros 1 0 → sequence ≡ hasSequence s → q ≡ cond sequence 1 0

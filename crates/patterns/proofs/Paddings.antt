@@ -98,6 +98,15 @@ module _ (s : List ℕ) where
     unfolding hasZeros
     zeros-some m e h f = rw (← e, ← f, le-leb 8 n h)
 
+  -- the octets of the run equal the last
+  pub run-all : (k : ℕ) → k < paddingLength s → getD s (length s - paddingLength s + k) 0 ≡ last s
+  run-all k l =
+      let le = padding-le in
+      let e = padding-long (omega arith) in
+      let j : ℕ = paddingLength s - 1 - k in
+      let there = is-true (last s) (getD (back s) j 0) (front-all (is (last s)) (back s) j (omega arith)) in
+      same s (length s - paddingLength s + k) (length s - 1 - j) (omega arith) ∙ sym (back-at j (omega arith)) ∙ there
+
   -- the law: a run of at least 4 is a padding, and no other is one
   module _ (long : 4 ≤ paddingLength s) where
     enough : 2 ≤ length s
@@ -111,10 +120,7 @@ module _ (s : List ℕ) where
           some = long;
           inside = omega arith;
           ends = omega arith;
-          all = λ k l.
-              let j : ℕ = paddingLength s - 1 - k in
-              let there = is-true (last s) (getD (back s) j 0) (front-all (is (last s)) (back s) j (omega arith)) in
-              same s (length s - paddingLength s + k) (length s - 1 - j) (omega arith) ∙ sym (back-at j (omega arith)) ∙ there;
+          all = run-all;
           left = λ l f.
               let stop = rw (← e) at (front-stops (is (last s)) (back s) (omega (arith, length-back))) in
               is-false (last s) (getD (back s) (paddingLength s) 0) stop

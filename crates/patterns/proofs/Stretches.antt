@@ -1,4 +1,4 @@
--- The walk from one stretch to the next, and that the stretches are the maximal ones.
+-- The walk from one stretch to the next, that the stretches are the maximal ones, and that octets behind that do not pass add none.
 -- Assumes nothing.
 use mathlib.Core.Path.{_≡_, refl, sym, ap, _∙_}
 use mathlib.Core.Bool.{Bool, true, false, cond, _&&_, not}
@@ -10,11 +10,11 @@ use native.Mathlib.Numerals.{add-one}
 use native.Mathlib.Omega.{arith, by-contra}
 use borrow.Author.Tests.{eqb-true, eqb-false, not-true}
 use lib.Dec.{eqb}
-use lib.ListN.{length, getD, drop, length-drop}
-use lib.Seq.{getD-drop}
+use lib.ListN.{length, getD, drop, length-drop, length-append, List·getD-append}
+use lib.Seq.{getD-drop, getD-append-add, drop-append-le}
 use Rattle.octets.proofs.Tests.{both-true}
 use Rattle.runs.specs.Front.{front}
-use Rattle.runs.proofs.Front.{front-le, front-all, front-stops, front-most, front-turn, front-stop}
+use Rattle.runs.proofs.Front.{front-le, front-all, front-stops, front-most, front-turn, front-stop, front-no}
 use Rattle.patterns.specs.Stretches.{Stretch, stretch, before, starts, stretchAt, stretchesFrom, stretches, Maximal}
 
 clash : {b : Bool} → b ≡ true → b ≡ false → ⊥
@@ -174,3 +174,46 @@ module _ (p : ℕ → Bool) (s : List ℕ) where
   pub every : (i n : ℕ) → Maximal p s i n → List·Memᴰ (stretch i n) (stretches p s)
   unfolding stretches
   every i n m = every-from (length s) 0 i n (omega arith) (omega (arith, m .some, m .within)) m
+
+-- octets behind others, none of which passes, add no stretch
+
+front-none : (p : ℕ → Bool) (s : List ℕ) → ((j : ℕ) → j < length s → p (getD s j 0) ≡ false) → front p s ≡ 0
+unfolding front
+front-none p [] none = refl
+front-none p (x ∷ s) none = front-no p x s (none 0 (omega arith))
+
+module _ (p : ℕ → Bool) (a b : List ℕ) (none : (j : ℕ) → j < length b → p (getD b j 0) ≡ false) where
+  front-past : (x : List ℕ) → front p (x ++ b) ≡ front p x
+  unfolding front
+  front-past [] = front-none p b none
+  front-past (y ∷ x) = rw (front-past x)
+
+  before-past : (i : ℕ) → i < length a → before p (a ++ b) i ≡ before p a i
+  unfolding before
+  before-past zero h = refl
+  before-past (suc i) h = rw (List·getD-append a b 0 i (omega arith))
+
+  at-past : (i : ℕ) → i < length a → stretchAt p (a ++ b) i ≡ stretchAt p a i
+  unfolding stretchAt starts
+  at-past i h = rw (List·getD-append a b 0 i h, before-past i h, drop-append-le i a b (omega arith), front-past (drop i a))
+
+  -- from place j of b on
+  none-past : (n i j : ℕ) → i ≡ length a + j → j + n ≤ length b → stretchesFrom p (a ++ b) i n ≡ []
+  unfolding stretchesFrom
+  none-past zero i j e h = refl
+  none-past (suc n) i j e h =
+      let there : p (getD (a ++ b) i 0) ≡ false = rw (e, getD-append-add a b j 0) (none j (omega arith)) in
+      rw (other-at p (a ++ b) i there) (none-past n (suc i) (suc j) (omega arith) (omega arith))
+
+  from-past : (n i : ℕ) → i + n ≡ length a → stretchesFrom p (a ++ b) i (n + length b) ≡ stretchesFrom p a i n
+  unfolding stretchesFrom
+  from-past zero i h =
+      let z : 0 + length b ≡ length b = omega arith in
+      rw z (none-past (length b) i 0 (omega arith) (omega arith))
+  from-past (suc n) i h =
+      let z : suc n + length b ≡ suc (n + length b) = omega arith in
+      rw (z, at-past i (omega arith), from-past n (suc i) (omega arith))
+
+  pub stretches-past : stretches p (a ++ b) ≡ stretches p a
+  unfolding stretches
+  stretches-past = rw (length-append a b) (from-past (length a) 0 (omega arith))

@@ -3,7 +3,7 @@ use runs::MAX_OCTETS;
 ghost use mathlib.Core.Path.{_≡_};
 ghost use mathlib.Core.Bool.{cond};
 ghost use Prim.Native.Nat.{_+_, _*_, _≤_};
-ghost use lib.ListN.{length, drop};
+ghost use lib.ListN.{length, take, drop};
 ghost use Rattle.runs.specs.Front.{front};
 ghost use Rattle.patterns.specs.Entries.{paddingPattern, textPattern, last, when, mark, paddingLength, padding, printable, texts, nonPaddingLength, hasZeros, startsWith, hasSequence, entries};
 ghost use Rattle.patterns.specs.Detect.{patternsAnswer, patternsOutput};
@@ -62,26 +62,27 @@ fn padding_length(frame: &[u8]) -> usize
     end - i
 }
 
-// How many octets stand before the padding.
-fn non_padding_length(frame: &[u8]) -> usize
+// How many octets stand before the padding, whose length is `n`.
+fn non_padding_length(frame: &[u8], n: usize) -> usize
+    requires { ⌜ n ≡ paddingLength (now frame) ⌝ }
     ensures { λ r. ⌜ r ≡ nonPaddingLength (now (frame .entry)) ⌝ }
 {
-    let n = padding_length(frame);
     if n < 4 {
         return frame.len();
     }
     frame.len() - n
 }
 
-// Whether the octets before the padding are at least 8, all of them 00.
-fn has_zeros(frame: &[u8]) -> bool
+// Whether the octets before the padding, whose length is `n`, are at least 8, all of them 00.
+fn has_zeros(frame: &[u8], n: usize) -> bool
+    requires { ⌜ n ≡ paddingLength (now frame) ⌝ }
     ensures { λ r. ⌜ r ≡ hasZeros (now (frame .entry)) ⌝ }
 {
-    let n = non_padding_length(frame);
-    if n < 8 {
+    let before = non_padding_length(frame, n);
+    if before < 8 {
         return false;
     }
-    n <= runs::same_from(frame, 0, 0)
+    before <= runs::same_from(frame, 0, 0)
 }
 
 // Whether `frame` starts with the octets of `octets`.
@@ -109,16 +110,6 @@ fn has_sequence(frame: &[u8]) -> bool
     starts_with(frame, &sequence)
 }
 
-// 1 for yes, 0 for no.
-fn one_if(yes: bool) -> usize
-    ensures { λ r. ⌜ (r ≡ cond yes 1 0) × (r ≤ 1) ⌝ }
-{
-    if yes {
-        return 1;
-    }
-    0
-}
-
 // How many octets 20 to 7E stand from place `i` on, one behind another.
 fn text_length(frame: &[u8], i: usize) -> usize
     ensures { λ r. ⌜ r ≡ front printable (drop i (now (frame .entry))) ⌝ }
@@ -135,22 +126,43 @@ fn count_texts(frame: &[u8]) -> usize
     let mut i = 0;
     while i < frame.len() {
         let n = text_length(frame, i);
-        count += one_if(4 <= n);
+        count += octets::one_if(4 <= n);
         i += n + 1;
     }
     count
 }
 
-// How many entries there are.
-fn count_entries(frame: &[u8]) -> usize
-    requires { ⌜ length (now frame) ≤ 65535 ⌝ }
+// How many octets in front have all texts: those before the padding, whose length is `n`, if its octets are none of 20 to
+// 7E, else all.
+fn text_octets(frame: &[u8], n: usize) -> usize
+    requires { ⌜ n ≡ paddingLength (now frame) ⌝ }
+    ensures { λ r. ⌜ (r ≤ length (now (frame .entry))) × (texts (take r (now (frame .entry))) ≡ texts (now (frame .entry))) ⌝ }
+{
+    if octets::within(0x20, 0x7E, last(frame)) {
+        return frame.len();
+    }
+    frame.len() - n
+}
+
+// How many entries there are. The padding's length is `n`.
+fn count_entries(frame: &[u8], n: usize) -> usize
+    requires { ⌜ (length (now frame) ≤ 65535) × (n ≡ paddingLength (now frame)) ⌝ }
     ensures { λ r. ⌜ r ≡ length (entries (now (frame .entry))) ⌝ }
 {
-    let padding = one_if(4 <= padding_length(frame));
-    let texts = count_texts(frame);
-    let zeros = one_if(has_zeros(frame));
-    let sequence = one_if(has_sequence(frame));
+    let padding = octets::one_if(4 <= n);
+    let end = text_octets(frame, n);
+    let texts = count_texts(&frame[..end]);
+    let zeros = octets::one_if(has_zeros(frame, n));
+    let sequence = octets::one_if(has_sequence(frame));
     padding + texts + zeros + sequence
+}
+
+// No frame of this size has more entries: each text has at least 4 octets, and another stands between two texts.
+fn most_entries(frame: &[u8]) -> usize
+    requires { ⌜ length (now frame) ≤ 65535 ⌝ }
+    ensures { λ r. ⌜ length (entries (now (frame .entry))) ≤ r ⌝ }
+{
+    (frame.len() + 1) / 5 + 3
 }
 
 // Stores an entry's four numbers from place `at` on, if `yes`, and answers the place behind them.
@@ -168,12 +180,11 @@ fn put_if(out: &mut [u32], at: usize, yes: bool, e: Entry) -> usize
     at
 }
 
-// Stores the padding's entry, if there is padding.
-fn write_padding(frame: &[u8], out: &mut [u32], at: usize) -> usize
-    requires { ⌜ (length (now frame) ≤ 65535) × (at + 4 * length (padding (now frame)) ≤ length (now out)) ⌝ }
+// Stores the padding's entry, if its length `n` makes it one.
+fn write_padding(frame: &[u8], n: usize, out: &mut [u32], at: usize) -> usize
+    requires { ⌜ (length (now frame) ≤ 65535) × (n ≡ paddingLength (now frame)) × (at + 4 * length (padding (now frame)) ≤ length (now out)) ⌝ }
     ensures { λ r. ⌜ Wrote at (padding (now (frame .entry))) (now (out .entry)) r (now (out .exit)) ⌝ }
 {
-    let n = padding_length(frame);
     let e = Entry {
         pattern: PADDING,
         start: (frame.len() - n) as u32,
@@ -216,14 +227,15 @@ fn mark(pattern: u32) -> Entry
     }
 }
 
-// Stores all entries at the front.
-fn write_entries(frame: &[u8], out: &mut [u32]) -> usize
-    requires { ⌜ (length (now frame) ≤ 65535) × (4 * length (entries (now frame)) ≤ length (now out)) ⌝ }
+// Stores all entries at the front. The padding's length is `n`.
+fn write_entries(frame: &[u8], n: usize, out: &mut [u32]) -> usize
+    requires { ⌜ (length (now frame) ≤ 65535) × (n ≡ paddingLength (now frame)) × (4 * length (entries (now frame)) ≤ length (now out)) ⌝ }
     ensures { λ r. ⌜ Wrote 0 (entries (now (frame .entry))) (now (out .entry)) r (now (out .exit)) ⌝ }
 {
-    let a = write_padding(frame, out, 0);
-    let b = write_texts(frame, out, a);
-    let c = put_if(out, b, has_zeros(frame), mark(ZEROS));
+    let a = write_padding(frame, n, out, 0);
+    let end = text_octets(frame, n);
+    let b = write_texts(&frame[..end], out, a);
+    let c = put_if(out, b, has_zeros(frame, n), mark(ZEROS));
     put_if(out, c, has_sequence(frame), mark(SEQUENCE))
 }
 
@@ -239,10 +251,11 @@ pub fn detect_patterns(frame: &[u8], out: &mut [u32]) -> PatternsDetected
     if MAX_OCTETS < frame.len() {
         return PatternsDetected::Refused(31);
     }
-    let n = count_entries(frame);
-    if out.len() / 4 < n {
-        return PatternsDetected::Refused(32);
+    let n = padding_length(frame);
+    if out.len() / 4 < most_entries(frame) {
+        if out.len() / 4 < count_entries(frame, n) {
+            return PatternsDetected::Refused(32);
+        }
     }
-    write_entries(frame, out);
-    PatternsDetected::Count(n)
+    PatternsDetected::Count(write_entries(frame, n, out) / 4)
 }

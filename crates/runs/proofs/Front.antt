@@ -51,7 +51,7 @@ front-alike p q e (x ∷ s) = rw (e x, front-alike p q e s)
 
 module _ (p : ℕ → Bool) where
   -- the first octet passes, or does not
-  pub front-yes : (x : ℕ) (s : List ℕ) → p x ≡ true → front p (x ∷ s) ≡ suc (front p s)
+  front-yes : (x : ℕ) (s : List ℕ) → p x ≡ true → front p (x ∷ s) ≡ suc (front p s)
   unfolding front
   front-yes x s e = rw e
 

@@ -1,19 +1,20 @@
--- Laws of the longest run: the walk from run to run finds it, and it is what it should be.
+-- Laws of the longest run: it is what it should be, and a walk from octet to octet finds it.
 -- Assumes nothing.
 use mathlib.Core.Path.{_≡_, refl, sym, ap, _∙_}
-use Prim.Native.Nat.{ℕ, zero, suc, _+_, _≤_, _<_}
+use Prim.Native.Nat.{ℕ, zero, suc, _+_, _-_, _≤_, _<_}
 use native.Mathlib.Omega.{arith, by-contra}
-use native.Mathlib.Nat.{add-zero, zero-add, add-suc, suc-add}
+use native.Mathlib.Nat.{add-zero, zero-add, add-suc, suc-add, add-sub-of-le, eq-or-lt-of-le}
+use mathlib.Core.Logic.{_⊎_, inl, inr, ⊎-elim}
 use mathlib.Core.Bool.{Bool, true, false}
 use mathlib.Core.List.{List, [], _∷_}
-use lib.ListN.{length, getD, drop, drop-of-length-le, length-drop}
-use lib.Seq.{drop-cons, drop-drop, drop-nil, getD-drop}
+use lib.ListN.{length, getD, take, drop, length-drop}
+use lib.Seq.{drop-nil, getD-drop, getD-take, length-take-le}
 use lib.Dec.{ltb}
 use borrow.Author.Tests.{lt-ltb, le-ltb, ltb-true, ltb-false}
 use Rattle.runs.specs.Front.{is, front}
 use Rattle.runs.specs.Longest.{run, longer, longestFrom, longest, OneValue, Longest, OnlyLongest}
 use Rattle.runs.specs.declared.Run.{Run}
-use Rattle.runs.proofs.Front.{front-yes, front-no, front-le, front-all, front-most, is-eq, is-true}
+use Rattle.runs.proofs.Front.{front-le, front-all, front-most, is-eq, is-true}
 
 -- the second where it is longer, else the first
 longer-second : (a b : Run) → a .length < b .length → longer a b ≡ b
@@ -24,7 +25,7 @@ longer-first : (a b : Run) → b .length ≤ a .length → longer a b ≡ a
 unfolding longer
 longer-first a b h = rw (le-ltb (a .length) (b .length) h)
 
--- what is shown where the first is longer or equalInFront, and where the second is longer
+-- what is shown where the first is as long or longer, and where the second is longer
 longer-cases : (a b : Run) (P : Type 0)
     → (b .length ≤ a .length → longer a b ≡ a → P) → (a .length < b .length → longer a b ≡ b → P) → P
 longer-cases a b P f g = go (ltb (a .length) (b .length)) refl
@@ -32,41 +33,6 @@ longer-cases a b P f g = go (ltb (a .length) (b .length)) refl
     go : (t : Bool) → ltb (a .length) (b .length) ≡ t → P
     go true e = let h = ltb-true (a .length) (b .length) e in g h (longer-second a b h)
     go false e = let h = ltb-false (a .length) (b .length) e in f h (longer-first a b h)
-
--- it does not matter which two are compared first
-longer-assoc : (a b d : Run) → longer (longer a b) d ≡ longer a (longer b d)
-longer-assoc a b d =
-    longer-cases a b (longer (longer a b) d ≡ longer a (longer b d))
-    (λ h e.
-    longer-cases b d (longer (longer a b) d ≡ longer a (longer b d))
-    (λ k f. rw (e, f, e) (longer-first a d (omega arith)))
-    (λ k f. rw (e, f)))
-    (λ h e.
-    longer-cases b d (longer (longer a b) d ≡ longer a (longer b d))
-    (λ k f. rw (e, f, e))
-    (λ k f. rw (e, f) (sym (longer-second a d (omega arith)))))
-
--- a shorter one in between does not count
-longer-skip : (a b d : Run) → b .length < a .length → longer a (longer b d) ≡ longer a d
-longer-skip a b d h = sym (longer-assoc a b d) ∙ rw (longer-first a b (omega arith))
-
--- the places inside a run, behind its first, start shorter ones
-skip : (x : ℕ) (s : List ℕ) (q : ℕ) (a : Run) → front (is x) s < a .length
-    → longer a (longestFrom q s) ≡ longer a (longestFrom (q + front (is x) s) (drop (front (is x) s) s))
-unfolding front longestFrom
-skip x [] q a h = refl
-skip x (y ∷ t) q a h = go (is x y) refl (λ l. skip x t (suc q) a l)
-  where
-    go : (b : Bool) → is x y ≡ b
-        → (front (is x) t < a .length → longer a (longestFrom (suc q) t) ≡ longer a (longestFrom (suc q + front (is x) t) (drop (front (is x) t) t)))
-        → longer a (longestFrom q (y ∷ t)) ≡ longer a (longestFrom (q + front (is x) (y ∷ t)) (drop (front (is x) (y ∷ t)) (y ∷ t)))
-    go false e more = rw (front-no (is x) y t e, add-zero q)
-    go true e more =
-        let n = front-yes (is x) y t e in
-        let same : front (is y) (y ∷ t) ≡ front (is x) (y ∷ t) = ap (λ (z : ℕ). front (is z) (y ∷ t)) (is-true x y e) in
-        longer-skip a (run q y (front (is y) (y ∷ t))) (longestFrom (suc q) t) (omega arith)
-        ∙ more (omega arith)
-        ∙ rw (n, add-suc q (front (is x) t), suc-add q (front (is x) t))
 
 -- neither is longer than the longer one
 longer-left : (a b : Run) → a .length ≤ longer a b .length
@@ -78,53 +44,6 @@ longer-right a b = longer-cases a b (b .length ≤ longer a b .length) (λ h e. 
 -- how many octets from place i on equal the one at i
 abbrev equalAt : List ℕ → ℕ → ℕ
 equalAt s i = front (is (getD s i 0)) (drop i s)
-
--- what the walk starts with is none
-pub none-before : (s : List ℕ) → longer (run 0 0 0) (longest s) ≡ longest s
-unfolding longestFrom
-none-before [] = longer-first (run 0 0 0) (run 0 0 0) (omega arith)
-none-before (x ∷ t) =
-    longer-second (run 0 0 0) (longest (x ∷ t))
-    (omega (arith, longer-left (run 0 x (front (is x) (x ∷ t))) (longestFrom 1 t), front-yes (is x) x t (is-eq x x refl)))
-
--- the run from place i on has an octet, and ends within s
-pub run-ends : (s : List ℕ) (i : ℕ) → i < length s → (0 < equalAt s i) × (i + equalAt s i ≤ length s)
-run-ends s i h =
-    let e : equalAt s i ≡ suc (front (is (getD s i 0)) (drop (suc i) s)) =
-    rw (drop-cons s i 0) (front-yes (is (getD s i 0)) (getD s i 0) (drop (suc i) s) (is-eq (getD s i 0) (getD s i 0) refl)) in
-    (omega arith, omega (arith, front-le (is (getD s i 0)) (drop i s), length-drop i s))
-
--- behind the first run the walk goes on at its end
-from-run : (x : ℕ) (t : List ℕ) (p : ℕ)
-    → longestFrom p (x ∷ t) ≡ longer (run p x (front (is x) (x ∷ t))) (longestFrom (p + front (is x) (x ∷ t)) (drop (front (is x) (x ∷ t)) (x ∷ t)))
-unfolding longestFrom
-from-run x t p =
-    let n = front-yes (is x) x t (is-eq x x refl) in
-    skip x t (suc p) (run p x (front (is x) (x ∷ t))) (omega arith)
-    ∙ rw (n, add-suc p (front (is x) t), suc-add p (front (is x) t))
-
--- the same from place i of s on
-from-here : (s : List ℕ) (i : ℕ) → i < length s
-    → longestFrom i (drop i s) ≡ longer (run i (getD s i 0) (equalAt s i)) (longestFrom (i + equalAt s i) (drop (i + equalAt s i) s))
-from-here s i h =
-    rw (← (drop-drop (equalAt s i) i s), drop-cons s i 0) (from-run (getD s i 0) (drop (suc i) s) i)
-
-turn : (s : List ℕ) (i : ℕ) (best : Run) → i < length s
-    → longer (longer best (run i (getD s i 0) (equalAt s i))) (longestFrom (i + equalAt s i) (drop (i + equalAt s i) s))
-    ≡ longer best (longestFrom i (drop i s))
-turn s i best h =
-    longer-assoc best (run i (getD s i 0) (equalAt s i)) (longestFrom (i + equalAt s i) (drop (i + equalAt s i) s))
-    ∙ ap (longer best) (sym (from-here s i h))
-
--- at the end nothing is left
-pub end : (s : List ℕ) (i : ℕ) (best : Run) → length s ≤ i → longer best (longestFrom i (drop i s)) ≡ best
-unfolding longestFrom
-end s i best h = rw (drop-of-length-le s {i = i} h) (longer-first best (run 0 0 0) (omega arith))
-
--- a turn of the walk
-pub next : (s : List ℕ) (i n : ℕ) (best better : Run) → i < length s → n ≡ equalAt s i → better ≡ longer best (run i (getD s i 0) n)
-    → longer better (longestFrom (i + n) (drop (i + n) s)) ≡ longer best (longestFrom i (drop i s))
-next s i n best better h e f = rw (f, e) (turn s i best h)
 
 -- it is as long as every run
 equal-most : (s : List ℕ) (p j : ℕ) → equalAt s j ≤ longestFrom p s .length
@@ -221,6 +140,92 @@ only-one {s} {a} {b} h l =
     omega (arith, h .first _ _ (l .same) (omega arith), l .first _ _ (h .same) (omega arith)) in
     runs-same a b p (h .value ∙ ap (λ (i : ℕ). getD s i 0) p ∙ sym (l .value)) n
 
--- the answer of the walk, with what it promises
-pub is-longest : (s : List ℕ) {r : Run} → r ≡ longest s → (r ≡ longest s) × (Longest s r × OnlyLongest s r)
-is-longest s {r} e = let l : Longest s r = rw e (longest-law s) in (e, (l, λ other h. only-one h l))
+-- the first i octets of s
+module _ (s : List ℕ) (i : ℕ) (h : i ≤ length s) where
+  -- their stretches of one value are those of s that end by i
+  value-out : (j n : ℕ) → OneValue (take i s) j n → (j + n ≤ i) × OneValue s j n
+  value-out j n v =
+      let e : j + n ≤ i = omega (arith, v .0, length-take-le i s h) in (
+        e,
+        (
+          omega arith,
+          λ k l. sym (getD-take i s (j + k) 0 (omega arith)) ∙ v .1 k l ∙ getD-take i s j 0 (omega arith),
+        ),
+      )
+
+  value-in : (j n : ℕ) → j + n ≤ i → OneValue s j n → OneValue (take i s) j n
+  value-in j n e v = (
+    omega (arith, length-take-le i s h),
+    λ k l. getD-take i s (j + k) 0 (omega arith) ∙ v .1 k l ∙ sym (getD-take i s j 0 (omega arith)),
+  )
+
+-- the run that the first i octets end with: its octets are x, and no stretch of one value that ends there starts before it
+pub record Last (s : List ℕ) (i start x : ℕ) : Type 0 where
+  pub inside : start ≤ i
+  pub same : (j : ℕ) → start ≤ j → j < i → getD s j 0 ≡ x
+  pub first : (j : ℕ) → ((k : ℕ) → j ≤ k → k < i → getD s k 0 ≡ getD s j 0) → start ≤ j
+
+-- the longest and the last of no octets
+pub at-first : (s : List ℕ) → Longest [] (run 0 0 0) × Last s 0 0 0
+unfolding longestFrom
+at-first s = (longest-law [], record { inside = omega arith; same = λ j a b. absurd (omega arith); first = λ j f. omega arith })
+
+-- one octet more: it is x, or another run starts with it
+module _ {s : List ℕ} {i start x : ℕ} (l : Last s i start x) where
+  pub last-on : getD s i 0 ≡ x → Last s (i + 1) start x
+  last-on e =
+      record {
+        inside = let h = l .inside in omega arith;
+        same = λ j a b. ⊎-elim (λ q. ap (λ (n : ℕ). getD s n 0) q ∙ e) (λ q. l .same j a q) (eq-or-lt-of-le {n = j} {m = i} (omega arith));
+        first = λ j f. l .first j (λ k a b. f k a (omega arith));
+      }
+
+  pub last-new : (getD s i 0 ≡ x → ⊥) → Last s (i + 1) i (getD s i 0)
+  last-new d =
+      record {
+        inside = omega arith;
+        same = λ j a b. ap (λ (n : ℕ). getD s n 0) (omega arith);
+        first = λ j f. by-contra _ _ (λ b.
+            d (f i (omega arith) (omega arith) ∙ l .same j (l .first j (λ k a c. f k a (omega arith))) (omega arith)));
+      }
+
+-- the longest run of the first i octets stays that of the first i + 1, or the run that these end with is longer
+module _ (s : List ℕ) (i : ℕ) {start x : ℕ} {a : Run} (h : i < length s) (m : Longest (take i s) a) (l : Last s (i + 1) start x) where
+  starts : start ≤ i
+  starts = l .first i (λ k b c. ap (λ (n : ℕ). getD s n 0) (omega arith))
+
+  -- a stretch ends before octet i, or with it
+  value-cases : (j n : ℕ) → OneValue (take (i + 1) s) j n → OneValue (take i s) j n ⊎ ((j + n ≡ i + 1) × (start ≤ j))
+  value-cases j n v =
+      let o = value-out s (i + 1) (omega arith) j n v in
+      ⊎-elim
+      (λ e. inr (e, l .first j (λ k b c. rw (add-sub-of-le b) at (o .1 .1 (k - j) (omega arith)))))
+      (λ b. inl (value-in s i (omega arith) j n (omega arith) (o .1)))
+      (eq-or-lt-of-le (o .0))
+
+  pub longest-on : i + 1 - start ≤ a .length → Longest (take (i + 1) s) a
+  longest-on b =
+      let z = starts in
+      let o = value-out s i (omega arith) (a .start) (a .length) (m .same) in
+      record {
+        same = value-in s (i + 1) (omega arith) (a .start) (a .length) (omega arith) (o .1);
+        value = m .value ∙ getD-take i s (a .start) 0 (omega arith) ∙ sym (getD-take (i + 1) s (a .start) 0 (omega arith));
+        most = λ j n v. ⊎-elim (λ w. m .most j n w) (λ w. omega arith) (value-cases j n v);
+        first = λ j n v g. ⊎-elim (λ w. m .first j n w g) (λ w. omega arith) (value-cases j n v);
+      }
+
+  pub longest-new : a .length < i + 1 - start → Longest (take (i + 1) s) (run start x (i + 1 - start))
+  longest-new b =
+      let z = starts in
+      let e = l .same start (omega arith) (omega arith) in
+      record {
+        same = value-in s (i + 1) (omega arith) start (i + 1 - start) (omega arith)
+            (omega arith, λ k q. l .same (start + k) (omega arith) (omega arith) ∙ sym e);
+        value = sym (getD-take (i + 1) s start 0 (omega arith) ∙ e);
+        most = λ j n v. ⊎-elim (λ w. omega (arith, m .most j n w)) (λ w. omega arith) (value-cases j n v);
+        first = λ j n v g. ⊎-elim (λ w. absurd (omega (arith, m .most j n w))) (λ w. w .1) (value-cases j n v);
+      }
+
+-- a longest run, with what the walk promises
+pub is-longest : (s : List ℕ) {r : Run} → Longest s r → (r ≡ longest s) × (Longest s r × OnlyLongest s r)
+is-longest s l = (only-one l (longest-law s), (l, λ other h. only-one h l))

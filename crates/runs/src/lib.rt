@@ -4,7 +4,7 @@ ghost use mathlib.Core.Path.{_≡_};
 ghost use lib.ListN.{drop};
 ghost use Rattle.octets.specs.Range.{within};
 ghost use Rattle.runs.specs.Front.{is, front};
-ghost use Rattle.runs.specs.Longest.{longer, longest, Longest, OnlyLongest};
+ghost use Rattle.runs.specs.Longest.{longest, Longest, OnlyLongest};
 
 // Most octets that statistics, patterns and the finder take: question 31.
 pub const MAX_OCTETS: usize = 65535;
@@ -37,16 +37,6 @@ pub fn same_from(s: &[u8], i: usize, x: u8) -> usize
     within_from(s, i, x, x)
 }
 
-// The longer of two runs, the first of equals.
-fn longer(a: Run, b: Run) -> Run
-    ensures { λ r. ⌜ r ≡ longer a b ⌝ }
-{
-    if a.length < b.length {
-        return b;
-    }
-    a
-}
-
 // The longest run, the earliest of equals; of no octets all is 0. No other run is that one.
 pub fn longest_run(s: &[u8]) -> Run
     ensures { λ r. ⌜ r ≡ longest (now (s .entry)) ⌝ }
@@ -58,20 +48,25 @@ pub fn longest_run(s: &[u8]) -> Run
         octet: 0,
         length: 0,
     };
+    // The run that the octets so far end with: its first place, and its value.
+    let mut start = 0;
+    let mut last = 0;
     let mut i = 0;
     while i < s.len() {
         let x = s[i];
-        let n = same_from(s, i, x);
-        let next = longer(
-            best,
-            Run {
-                start: i,
-                octet: x,
+        if x != last {
+            start = i;
+            last = x;
+        }
+        let n = i + 1 - start;
+        if best.length < n {
+            best = Run {
+                start,
+                octet: last,
                 length: n,
-            },
-        );
-        best = next;
-        i += n;
+            };
+        }
+        i += 1;
     }
     best
 }
