@@ -113,14 +113,17 @@ module _ (s : List ℕ) where
     pub own-size : acceptable rule (ownOctets s) ≡ true → length (ownOctets s) ≡ ownCount s
     own-size e = facts rule (ownOctets s) own-octets e .read .size ∙ ap frameSize own-length
 
+    -- so has any front of s that is acceptable
+    pub front-size : (n : ℕ) → acceptable rule (take n s) ≡ true → (8 ≤ length (take n s)) × (length (take n s) ≡ ownCount s)
+    front-size n e =
+        let a = facts rule (take n s) (octets-take n s octets) e .read in
+        (a .long, a .size ∙ ap frameSize (length-front n (omega (arith, a .long, length-take n s))))
+
     -- no other front of s is acceptable
     only-own : (n : ℕ) → acceptable rule (take n s) ≡ true → take n s ≡ ownOctets s
     unfolding ownOctets
     only-own n e =
-        let a = facts rule (take n s) (octets-take n s octets) e .read in
-        let counted = length-take n s in
-        let size : length (take n s) ≡ ownCount s = a .size ∙ ap frameSize (length-front n (omega (arith, a .long))) in
-        sym (take-length (take n s)) ∙ take-take (length (take n s)) n s (omega arith) ∙ ap (λ (k : ℕ). take k s) size
+        sym (take-length (take n s)) ∙ take-take (length (take n s)) n s (omega (arith, length-take n s)) ∙ ap (λ (k : ℕ). take k s) (front-size n e .1)
 
     pub none-else : acceptable rule (ownOctets s) ≡ false → (n : ℕ) → acceptable rule (take n s) ≡ false
     none-else none n = by (acceptable rule (take n s)) refl

@@ -1,3 +1,5 @@
 pub mod Acceptables
 pub mod Searches
+pub mod Sizes
 pub mod Turns
+pub mod Next

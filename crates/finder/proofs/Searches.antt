@@ -129,17 +129,18 @@ module _ (rule : CheckRule) (run : List ℕ) where
         by later (no inside) true e = at-frame p (omega arith) e
         by later (no inside) false e = at-other p (omega arith) e later
 
+    -- what the search's answer means
+    pub search-plain : (place : ℕ) → Found rule run place (searchFrom rule run place .found)
+    search-plain place = means (length run) place (omega arith)
+
     -- what the finder's answer means
     pub found-plain : (place : ℕ) → Found rule run place (find rule run place)
     unfolding find
     found-plain place = record {
-      reported = λ r same. m .reported r (value same (λ k clash. let z : _≡_ {A = ℕ} 0 1 = cc in omega arith));
-      nothing = λ same. m .nothing (value same (λ k clash. let z : _≡_ {A = ℕ} 0 1 = cc in omega arith));
+      reported = λ r same. search-plain place .reported r (value same (λ k clash. let z : _≡_ {A = ℕ} 0 1 = cc in omega arith));
+      nothing = λ same. search-plain place .nothing (value same (λ k clash. let z : _≡_ {A = ℕ} 0 1 = cc in omega arith));
     }
       where
-        m : Found rule run place (searchFrom rule run place .found)
-        m = means (length run) place (omega arith)
-
         value : {a : FrameFound} → find rule run place ≡ a → ((k : ℕ) → Refused k ≡ a → ⊥) → searchFrom rule run place .found ≡ a
         value same none = is-value Refused (searchFrom rule run place .found) (firstNo (findQuestions run place)) same none .1
 

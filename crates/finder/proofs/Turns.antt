@@ -9,26 +9,16 @@ use native.Mathlib.Numerals.{add-one}
 use native.Mathlib.Omega.{arith}
 use lib.ListN.{length, getD, take, drop, length-drop}
 use lib.Seq.{getD-drop}
-use Rattle.octets.specs.Number.{number}
 use Rattle.octets.proofs.Parts.{Octets, octets-drop}
 use Rattle.crc.specs.declared.CheckRule.{CheckRule}
 use Rattle.mstp_frame.specs.Frame.{frameSize}
-use Rattle.mstp_decode.specs.Decode.{dataLength}
 use Rattle.finder.specs.declared.FrameFound.the-variants.{Frame}
 use Rattle.finder.specs.Acceptable.{acceptable, ownCount, ownOctets}
-use Rattle.finder.specs.Search.{report, searchFrom}
-use Rattle.finder.specs.Steps.{NoneBefore, SizeAt}
+use Rattle.finder.specs.Search.{report, searchFrom, sizeAt}
+use Rattle.finder.specs.Steps.{NoneBefore}
 use Rattle.finder.proofs.Acceptables.{Facts, unacceptable, own-inside, own-length, own-header, own-octets}
 use Rattle.finder.proofs.Searches.{search-hit, search-miss}
-
--- the octet count that `size_at` reads
-pub size-said : (run : List ℕ) (p : ℕ) {n size : ℕ} → n ≡ number (getD run (p + 5) 0) (getD run (p + 6) 0) → size ≡ frameSize n → 8 ≤ size
-    → SizeAt run p size
-unfolding dataLength
-size-said run p read sized least = record {
-  least = least;
-  said = λ long. sized ∙ ap frameSize (read ∙ rw (getD-drop p run 5 0, getD-drop p run 6 0));
-}
+use Rattle.finder.proofs.Sizes.{size-own, size-8}
 
 module _ (run : List ℕ) (octets : Octets run) where
   module _ {p : ℕ} (inside : p < length run) (rule : CheckRule) where
@@ -55,20 +45,20 @@ module _ (run : List ℕ) (octets : Octets run) where
       here = rw (getD-drop p run 0 0, add-zero p)
 
   -- at a header that says so many octets
-  module _ (rule : CheckRule) {p size : ℕ} (inside : p < length run) (s : SizeAt run p size) where
+  module _ (rule : CheckRule) {p size : ℕ} (inside : p < length run) (sized : size ≡ sizeAt run p) where
     pub runs-off : {next : ℕ} → length run - p < size → NoneBefore run (p + 1) next → searchFrom rule run p .found ≡ searchFrom rule run next .found
     runs-off few before =
         on inside rule
         (ruled-out inside rule (λ f.
         let left = length-drop p run in
         let whole = own-inside (drop p run) in
-        omega (arith, f .read .size, ap frameSize (own-length (drop p run)), s .said (omega (arith, f .read .long)))))
+        omega (arith, f .read .size, ap frameSize (own-length (drop p run)), sized, size-own run p (omega (arith, f .read .long)))))
         ∙ before .same rule
 
     -- if they are there, they are the frame's
     module _ (there : size ≤ length run - p) where
       size-is : size ≡ ownCount (drop p run)
-      size-is = s .said (omega (arith, length-drop p run, s .least))
+      size-is = sized ∙ size-own run p (omega (arith, length-drop p run, sized, size-8 run p))
 
       part-own : take (p + size - p) (drop p run) ≡ ownOctets (drop p run)
       unfolding ownOctets

@@ -42,6 +42,20 @@ search rule place (x ∷ s) =
 abbrev pub searchFrom : CheckRule → List ℕ → ℕ → Searched
 searchFrom rule run place = search rule place (drop place run)
 
+-- the octet count that the header at a place says; 8, a header's, where fewer octets are left
+unfoldable pub sizeAt : List ℕ → ℕ → ℕ
+sizeAt run place = cond (leb 8 (length (drop place run))) (ownCount (drop place run)) 8
+
+-- the place of a report, or else another
+abbrev pub placeOr : ℕ → FrameFound → ℕ
+placeOr other (Frame r) = r .place
+placeOr other None = other
+placeOr other (Refused question) = other
+
+-- the place of the first acceptable frame from a place on, or the run's length
+unfoldable pub nextFrame : CheckRule → List ℕ → ℕ → ℕ
+nextFrame rule run place = placeOr (length run) (searchFrom rule run place .found)
+
 -- the questions: 31, then 33, place not beyond the end?
 unfoldable pub findQuestions : List ℕ → ℕ → List Question
 findQuestions run place = sizeQuestion run ∷ ask 33 (leb place (length run)) ∷ []

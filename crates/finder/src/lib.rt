@@ -7,12 +7,10 @@ use mstp_frame::MSTP_MAX_DATA_LENGTH;
 use mstp_frame::MSTP_PREAMBLE_55;
 use runs::MAX_OCTETS;
 ghost use mathlib.Core.Path.{_≡_};
-ghost use Prim.Native.Nat.{_<_};
-ghost use lib.ListN.{length};
 ghost use Rattle.finder.specs.Acceptable.{acceptable};
-ghost use Rattle.finder.specs.Search.{find};
+ghost use Rattle.finder.specs.Search.{sizeAt, nextFrame, find};
 ghost use Rattle.finder.specs.Found.{Found};
-ghost use Rattle.finder.specs.Steps.{NoneBefore, SizeAt};
+ghost use Rattle.finder.specs.Steps.{NoneBefore};
 
 // A frame found in a run: its place and its octet count.
 pub struct Report {
@@ -61,14 +59,34 @@ fn next_55(run: &[u8], from: usize) -> usize
 }
 
 // The octet count that the header at a place says; 8, a header's, where fewer octets are left.
-fn size_at(run: &[u8], p: usize) -> usize
-    requires { ⌜ p < length (now run) ⌝ }
-    ensures { λ r. ⌜ SizeAt (now (run .entry)) p r ⌝ }
+pub fn size_at(run: &[u8], p: usize) -> usize
+    ensures { λ r. ⌜ r ≡ sizeAt (now (run .entry)) p ⌝ }
 {
+    if run.len() < p {
+        return MSTP_HEADER_SIZE;
+    }
     if run.len() - p < MSTP_HEADER_SIZE {
         return MSTP_HEADER_SIZE;
     }
     mstp_frame::frame_size(octets::number(run[p + 5], run[p + 6]))
+}
+
+// The place of the first acceptable frame from a place on, or the run's length.
+pub fn next_frame(rule: CheckRule, run: &[u8], from: usize) -> usize
+    ensures { λ r. ⌜ r ≡ nextFrame rule (now (run .entry)) from ⌝ }
+{
+    let mut p = next_55(run, from);
+    while p < run.len() {
+        let size = size_at(run, p);
+        if run.len() - p < size {
+            p = next_55(run, p + 1); // it would run off the end
+        } else if acceptable(rule, &run[p..p + size]) {
+            return p;
+        } else {
+            p = next_55(run, p + 1); // it is broken
+        }
+    }
+    run.len()
 }
 
 // The first acceptable frame that starts at a place or later. A report is acceptable, and no acceptable frame starts
@@ -83,19 +101,12 @@ pub fn find_frame(rule: CheckRule, run: &[u8], place: usize) -> FrameFound
     if run.len() < place {
         return FrameFound::Refused(33);
     }
-    let mut p = next_55(run, place);
-    while p < run.len() {
-        let size = size_at(run, p);
-        if run.len() - p < size {
-            p = next_55(run, p + 1); // it would run off the end
-        } else if acceptable(rule, &run[p..p + size]) {
-            return FrameFound::Frame(Report {
-                place: p,
-                count: size,
-            });
-        } else {
-            p = next_55(run, p + 1); // it is broken
-        }
+    let p = next_frame(rule, run, place);
+    if p < run.len() {
+        return FrameFound::Frame(Report {
+            place: p,
+            count: size_at(run, p),
+        });
     }
     FrameFound::None
 }

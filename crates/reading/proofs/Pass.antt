@@ -3,7 +3,7 @@
 use mathlib.Core.Path.{_≡_, refl, sym, ap, _∙_}
 use mathlib.Core.Bool.{Bool, true, false, cond}
 use mathlib.Core.List.{List, [], _∷_}
-use Prim.Native.Nat.{ℕ, zero, suc, _+_, _-_, _≤_, _<_}
+use Prim.Native.Nat.{ℕ, zero, suc, _+_, _*_, _-_, _≤_, _<_}
 use native.Mathlib.Nat.{add-zero, add-suc, suc-add}
 use native.Mathlib.Omega.{arith}
 use lib.ListN.{length, drop, length-take}
@@ -94,6 +94,16 @@ module _ (rule : CheckRule) (run : List ℕ) where
 
       pub rest-reading : reading rule run ≡ rest rule run 0
       rest-reading = read-rest (omega arith) reading-ends
+
+      -- each report takes 8 octets or more
+      read-few : {place : ℕ} {rs : List Report} → place ≤ length run → Reading rule run place rs → place + 8 * length rs ≤ length run
+      read-few within (end e) = omega arith
+      read-few {place} within (next {r = r} e on) =
+          let o = onward place r e in
+          omega (arith, o .0, o .1, read-few (o .2) on)
+
+      pub few-reports : 8 * length (reading rule run) ≤ length run
+      few-reports = omega (arith, read-few (omega arith) reading-ends)
 
       pub whole-reading : WholeReading rule run (reading rule run)
       whole-reading = record { read = reading-ends; only = λ others read. read-rest (omega arith) read ∙ sym rest-reading }

@@ -2,7 +2,7 @@
 mod output;
 
 use crc::CheckRule;
-use finder::FrameFound;
+use mstp_frame::MSTP_HEADER_SIZE;
 use runs::MAX_OCTETS;
 ghost use mathlib.Core.Path.{_≡_};
 ghost use Prim.Native.Nat.{_≤_};
@@ -24,17 +24,12 @@ fn count_reports(rule: CheckRule, run: &[u8]) -> usize
     ensures { λ r. ⌜ r ≡ length (reading rule (now (run .entry))) ⌝ }
 {
     let mut n: usize = 0;
-    let mut place: usize = 0;
-    loop {
-        match finder::find_frame(rule, run, place) {
-            FrameFound::Frame(report) => {
-                n += 1;
-                place = report.place + report.count;
-            }
-            FrameFound::None => return n,
-            FrameFound::Refused(_) => return n,
-        }
+    let mut p = finder::next_frame(rule, run, 0);
+    while p < run.len() {
+        n += 1;
+        p = finder::next_frame(rule, run, p + finder::size_at(run, p));
     }
+    n
 }
 
 // How many frames a whole reading of a run finds, or the question that fails. Demand 3: of a run that begins with damage
@@ -63,10 +58,11 @@ pub fn read_frames(rule: CheckRule, run: &[u8], out: &mut [u32]) -> FramesRead
     if MAX_OCTETS < run.len() {
         return FramesRead::Refused(31);
     }
-    let n = count_reports(rule, run);
-    if out.len() / 2 < n {
-        return FramesRead::Refused(32);
+    // a frame has a header: a list with room for one in every 8 octets needs no counting
+    if out.len() / 2 < run.len() / MSTP_HEADER_SIZE {
+        if out.len() / 2 < count_reports(rule, run) {
+            return FramesRead::Refused(32);
+        }
     }
-    output::write_reports(rule, run, out);
-    FramesRead::Count(n)
+    FramesRead::Count(output::write_reports(rule, run, out))
 }

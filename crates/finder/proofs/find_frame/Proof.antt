@@ -1,139 +1,64 @@
--- `finder::find_frame` meets its contract: the questions, then from 55 to 55: the search from here finds what the search from the first place finds.
+-- `finder::find_frame` meets its contract: the questions, then the place that `next_frame` gives and the octet count there.
 -- Assumes nothing.
-use Prim.Native.Nat.{_-_}
 use mathlib.Core.Path.{_≡_, sym, ap, _∙_}
+use Prim.Native.Nat.{ℕ}
 use native.Mathlib.Omega.{arith}
-use lib.ListN.{length}
 use Rattle.octets.proofs.Parts.{Octets}
-use Rattle.finder.specs.Search.{Searched, searchFrom, find}
-use Rattle.finder.proofs.Searches.{answers, too-long, beyond, find-search, search-end}
-use Rattle.finder.proofs.Turns.{runs-off, broken, hit}
+use Rattle.finder.specs.declared.FrameFound.the-variants.{Frame}
+use Rattle.finder.specs.Search.{report, searchFrom, find}
+use Rattle.finder.proofs.Searches.{answers, too-long, beyond, find-search}
+use Rattle.finder.proofs.Next.{Next, next}
 use borrow.Author.Needs.{needs}
 use Rattle.finder.proofs.find_frame.Statement.{statement}
 use Rattle.finder.proofs.find_frame.Tie as tie
 
-abbrev Inv-loop : tie.InvT-loop
-Inv-loop rule run place p₀ p = searchFrom rule run place .found ≡ searchFrom rule run p .found
-
-abbrev μ-loop : tie.MeasureT-loop
-μ-loop rule run place p₀ p = length run - p
-
-octets : (c : tie.After-shared-slice-known Inv-loop μ-loop) → Octets (c .before .args .run .now)
+octets : (c : tie.After-shared-slice-known) → Octets (c .before .args .run .now)
 octets c i = c .shared-slice-known .given i .fits
 
--- the finder's answer is that of the search from here
-found : (c : tie.At-loop Inv-loop μ-loop)
-    → let a = c .before .before .before .before .before .args in
-    find (a .rule) (a .run .now) (a .place) ≡ searchFrom (a .rule) (a .run .now) (c .loop .p) .found
+-- the finder's answer is the search's
+found : (c : tie.After-next-frame)
+    → let a = c .before .before .before .before .args in
+    find (a .rule) (a .run .now) (a .place) ≡ searchFrom (a .rule) (a .run .now) (a .place) .found
 found c =
-    let a = c .before .before .before .before .before .args in
-    find-search (a .rule) (a .run .now) (omega arith) (a .place) (omega arith) ∙ c .loop .inv
+    let a = c .before .before .before .before .args in
+    find-search (a .rule) (a .run .now) (omega arith) (a .place) (omega arith)
 
-loop-holds : tie.Need-loop-holds Inv-loop μ-loop
-loop-holds c = c .next-55 .ensures .same _
+-- what the place means
+means : (c : tie.After-next-frame)
+    → let a = c .before .before .before .before .args in
+    Next (a .rule) (a .run .now) (a .place) (c .next-frame .result)
+means c = next _ _ (octets (c .before .before .before)) _ (c .next-frame .ensures)
 
-loop-again : tie.Need-loop-again Inv-loop μ-loop
-loop-again c =
-    let at = c .before .before .before .before in
-    at .loop .inv
-    ∙ runs-off _ (octets (at .before .before .before .before)) _ (c .before .before .before .loop-test .taken) (c .before .before .size-at .ensures) (c .before .if3 .taken)
-    (c .next-552 .ensures)
-
-loop-again-2 : tie.Need-loop-again-2 Inv-loop μ-loop
-loop-again-2 c =
-    let sized = c .before .before .before .before .before in
-    let at = sized .before .before in
-    at .loop .inv
-    ∙ broken _ (octets (at .before .before .before .before)) _ (sized .before .loop-test .taken) (sized .size-at .ensures) (c .before .before .before .before .if3 .left)
-    (sym (c .before .before .acceptable .ensures) ∙ c .before .if4 .left)
-    (c .next-553 .ensures)
-
-returns : tie.Need-returns Inv-loop μ-loop
+returns : tie.Need-returns
 returns c = answers _ _ (octets (c .before)) _ (too-long _ _ _ (omega arith))
 
-returns-2 : tie.Need-returns-2 Inv-loop μ-loop
+returns-2 : tie.Need-returns-2
 returns-2 c = answers _ _ (octets (c .before .before)) _ (beyond _ _ (c .before .if1 .left) _ (omega arith))
 
-next-55-requires : tie.Need-next-55-requires Inv-loop μ-loop
-next-55-requires c κs = search needs
+next-frame-requires : tie.Need-next-frame-requires
+next-frame-requires c κs = search needs
 
-size-at-requires : tie.Need-size-at-requires Inv-loop μ-loop
-size-at-requires c κs = omega arith
+size-at-requires : tie.Need-size-at-requires
+size-at-requires c κs = search needs
 
-sub-if3 : tie.Need-sub-if3 Inv-loop μ-loop
-sub-if3 c = omega arith
-
-add-next-55 : tie.Need-add-next-55 Inv-loop μ-loop
-add-next-55 c = omega arith
-
-next-55-requires-2 : tie.Need-next-55-requires-2 Inv-loop μ-loop
-next-55-requires-2 c κs = search needs
-
-loop-less : tie.Need-loop-less Inv-loop μ-loop
-loop-less c = omega (arith, c .next-552 .ensures .later)
-
-add-acceptable : tie.Need-add-acceptable Inv-loop μ-loop
-add-acceptable c = omega arith
-
-sub-acceptable : tie.Need-sub-acceptable Inv-loop μ-loop
-sub-acceptable c = omega arith
-
-part-acceptable-start : tie.Need-part-acceptable-start Inv-loop μ-loop
-part-acceptable-start c = omega arith
-
-part-acceptable-end : tie.Need-part-acceptable-end Inv-loop μ-loop
-part-acceptable-end c = omega arith
-
-acceptable-requires : tie.Need-acceptable-requires Inv-loop μ-loop
-acceptable-requires c κs = search needs
-
-returns-3 : tie.Need-returns-3 Inv-loop μ-loop
+returns-3 : tie.Need-returns-3
 returns-3 c =
-    let sized = c .before .before .before .before in
-    let at = sized .before .before in
-    answers _ _ (octets (at .before .before .before .before)) _
-    (sym (found at ∙ hit _ (octets (at .before .before .before .before)) _ (sized .before .loop-test .taken) (sized .size-at .ensures) (c .before .before .before .if3 .left)
-    (sym (c .before .acceptable .ensures) ∙ c .if4 .taken)))
+    let at = c .before .before in
+    answers _ _ (octets (at .before .before .before)) _
+    (ap (λ (n : ℕ). Frame (report (at .next-frame .result) n)) (c .size-at .ensures) ∙ sym (found at ∙ means at .frame (c .before .if3 .taken)))
 
-add-next-55-2 : tie.Need-add-next-55-2 Inv-loop μ-loop
-add-next-55-2 c = omega arith
-
-next-55-requires-3 : tie.Need-next-55-requires-3 Inv-loop μ-loop
-next-55-requires-3 c κs = search needs
-
-loop-less-2 : tie.Need-loop-less-2 Inv-loop μ-loop
-loop-less-2 c = omega (arith, c .next-553 .ensures .later)
-
-returns-4 : tie.Need-returns-4 Inv-loop μ-loop
+returns-4 : tie.Need-returns-4
 returns-4 c =
     let at = c .before in
-    answers _ _ (octets (at .before .before .before .before)) _
-    (sym (found at ∙ ap (λ (x : Searched). x .found) (search-end _ _ (at .loop .p) (omega arith))))
+    answers _ _ (octets (at .before .before .before)) _ (sym (found at ∙ means at .none (c .if3 .left)))
 
 pub find-frame-spec : {M : Type 1} → statement M
 find-frame-spec =
     tie.close
     (tie.spec
-    Inv-loop
-    μ-loop
     returns
     returns-2
-    next-55-requires
-    loop-holds
+    next-frame-requires
     size-at-requires
-    sub-if3
-    add-next-55
-    next-55-requires-2
-    loop-less
-    loop-again
-    add-acceptable
-    sub-acceptable
-    part-acceptable-start
-    part-acceptable-end
-    acceptable-requires
     returns-3
-    add-next-55-2
-    next-55-requires-3
-    loop-less-2
-    loop-again-2
     returns-4)

@@ -1,72 +1,63 @@
--- `reading::count_reports` meets its contract: the reports counted and those from the place on are all.
+-- `reading::count_reports` meets its contract: the reports counted and those from the place behind them on are all.
 -- Assumes nothing.
-use Prim.Native.Nat.{_-_, _≤_, _<_}
-use mathlib.Core.Path.{_≡_, refl, sym, _∙_}
+use Prim.Native.Nat.{_-_}
+use mathlib.Core.Path.{refl}
 use native.Mathlib.Omega.{arith}
 use borrow.Author.Needs.{needs}
 use lib.ListN.{length}
 use Rattle.octets.proofs.Parts.{Octets}
-use Rattle.finder.specs.declared.FrameFound.the-variants.{Frame}
-use Rattle.finder.specs.Search.{endOf, find}
-use Rattle.reading.specs.Reading.{reading}
-use Rattle.reading.proofs.Loops.{Past, past-start, on, past-next, past-all}
+use Rattle.reading.proofs.Loops.{Past, past-start, on, behind, past-next, past-all}
 use Rattle.reading.proofs.count_reports.Statement.{statement}
 use Rattle.reading.proofs.count_reports.Tie as tie
 
 abbrev Inv-loop : tie.InvT-loop
-Inv-loop rule run n₀ place₀ n place = Past rule run n place
+Inv-loop rule run n₀ p₀ n p = Past rule run n p
 
 abbrev μ-loop : tie.MeasureT-loop
-μ-loop rule run n₀ place₀ n place = length run - place
+μ-loop rule run n₀ p₀ n p = length run - p
 
-octets : (c : tie.At-loop Inv-loop μ-loop) → Octets (c .before .before .args .run .now)
-octets c i = c .before .shared-slice-known .given i .fits
+octets : (c : tie.After-shared-slice-known Inv-loop μ-loop) → Octets (c .before .args .run .now)
+octets c i = c .shared-slice-known .given i .fits
 
--- the call's report
-found : (c : tie.After-report Inv-loop μ-loop)
-    → let at = c .before .before .before in
-    find (at .before .before .args .rule) (at .before .before .args .run .now) (at .loop .place) ≡ Frame (c .report .given .0 .0)
-found c = sym (c .before .before .find-frame .ensures .0) ∙ c .report .given .1
-
--- it goes on within the run
-goes-on : (c : tie.After-report Inv-loop μ-loop)
-    → let at = c .before .before .before in
-    let r = c .report .given .0 .0 in
-    (at .loop .place < endOf r) × (endOf r ≤ length (at .before .before .args .run .now)) × (at .loop .n < length (reading (at .before .before .args .rule) (at .before .before .args .run .now)))
-goes-on c = let at = c .before .before .before in on _ _ (at .before .before .pre) (octets at) (found c) (at .loop .inv)
-
-loop-again : tie.Need-loop-again Inv-loop μ-loop
-loop-again c = let at = c .before .before .before .before .before in past-next _ _ (at .before .before .pre) (octets at) (found (c .before .before)) (at .loop .inv)
+next-frame-requires : tie.Need-next-frame-requires Inv-loop μ-loop
+next-frame-requires c κs = search needs
 
 loop-holds : tie.Need-loop-holds Inv-loop μ-loop
-loop-holds c = past-start _ _ (c .before .pre) (λ i. c .shared-slice-known .given i .fits)
-
-find-frame-requires : tie.Need-find-frame-requires Inv-loop μ-loop
-find-frame-requires c κs = search needs
-
-enum-known-report : tie.Need-enum-known-report Inv-loop μ-loop
-enum-known-report c = search needs
+loop-holds c = past-start _ _ (c .before .before .pre) (octets (c .before)) (c .next-frame .ensures)
 
 add-n : tie.Need-add-n Inv-loop μ-loop
-add-n c = let at = c .before .before .before .before in omega (arith, at .loop .inv .few, at .loop .inv .inside, at .before .before .pre)
+add-n c =
+    let start = c .before .before .before in
+    omega (arith, on _ _ (start .before .pre) (octets start) (c .before .loop .inv) (c .loop-test .taken) refl .2, start .before .pre)
 
-add-place : tie.Need-add-place Inv-loop μ-loop
-add-place c = let at = c .before .before .before .before .before in omega (arith, goes-on (c .before .before) .1, at .before .before .pre)
+size-at-requires : tie.Need-size-at-requires Inv-loop μ-loop
+size-at-requires c κs = search needs
+
+add-next-frame : tie.Need-add-next-frame Inv-loop μ-loop
+add-next-frame c =
+    let at = c .before .before in
+    let start = at .before .before in
+    omega (arith, on _ _ (start .before .pre) (octets start) (at .loop .inv) (c .before .loop-test .taken) (c .size-at .ensures) .0, start .before .pre)
+
+next-frame-requires-2 : tie.Need-next-frame-requires-2 Inv-loop μ-loop
+next-frame-requires-2 c κs = search needs
 
 loop-less : tie.Need-loop-less Inv-loop μ-loop
-loop-less c = let g = goes-on (c .before .before) in omega (arith, g .0, g .1)
+loop-less c =
+    let test = c .before .before in
+    let start = test .before .before .before in
+    omega (arith, behind _ _ (start .before .pre) (octets start) (test .before .loop .inv) (test .loop-test .taken) (c .before .size-at .ensures) (c .next-frame2 .ensures))
 
-enum-told : tie.Need-enum-told Inv-loop μ-loop
-enum-told c = search needs
+loop-again : tie.Need-loop-again Inv-loop μ-loop
+loop-again c =
+    let test = c .before .before in
+    let start = test .before .before .before in
+    past-next _ _ (start .before .pre) (octets start) (test .before .loop .inv) (test .loop-test .taken) (c .before .size-at .ensures) (c .next-frame2 .ensures)
 
 returns : tie.Need-returns Inv-loop μ-loop
-returns c = let at = c .before .before .before in past-all _ _ (at .before .before .pre) (octets at) (sym (c .before .before .find-frame .ensures .0) ∙ c .enum-told .given .1) refl (at .loop .inv)
-
-enum-told-2 : tie.Need-enum-told-2 Inv-loop μ-loop
-enum-told-2 c = search needs
-
-returns-2 : tie.Need-returns-2 Inv-loop μ-loop
-returns-2 c = let at = c .before .before .before in past-all _ _ (at .before .before .pre) (octets at) (sym (c .before .before .find-frame .ensures .0) ∙ c .enum-told2 .given .1) refl (at .loop .inv)
+returns c =
+    let start = c .before .before .before in
+    past-all _ _ (start .before .pre) (octets start) (c .before .loop .inv) (c .loop-test .left)
 
 pub count-reports-spec : {M : Type 1} → statement M
 count-reports-spec =
@@ -74,14 +65,12 @@ count-reports-spec =
     (tie.spec
     Inv-loop
     μ-loop
+    next-frame-requires
     loop-holds
-    find-frame-requires
-    enum-known-report
     add-n
-    add-place
+    size-at-requires
+    add-next-frame
+    next-frame-requires-2
     loop-less
     loop-again
-    enum-told
-    returns
-    enum-told-2
-    returns-2)
+    returns)
