@@ -15,13 +15,13 @@ abbrev pub NoneFires : List Test → Type 0
 NoneFires [] = Unit {0}
 NoneFires (finds fires entry ∷ tests) = (fires ≡ false) × NoneFires tests
 
-none-found : (tests : List Test) → length (found tests) ≡ 0 → NoneFires tests
+pub none-found : (tests : List Test) → length (found tests) ≡ 0 → NoneFires tests
 unfolding found
 none-found [] none = tt
 none-found (finds false entry ∷ tests) none = (refl, none-found tests none)
 none-found (finds true entry ∷ tests) none = absurd (omega arith)
 
-none-fires : (tests : List Test) → NoneFires tests → length (found tests) ≡ 0
+pub none-fires : (tests : List Test) → NoneFires tests → length (found tests) ≡ 0
 unfolding found
 none-fires [] none = refl
 none-fires (finds fires entry ∷ tests) none = rw (none .0) (none-fires tests (none .1))

@@ -1,7 +1,7 @@
 -- The result of a validator: link, size, validity, and the findings in the order of its tests.
 -- Assumes nothing.
 use Prim.Native.Nat.{ℕ, _+_, _-_}
-use mathlib.Core.Bool.{Bool, false, cond}
+use mathlib.Core.Bool.{Bool, false, cond, _&&_}
 use mathlib.Core.List.{List, [], _∷_, _++_}
 use lib.Dec.{eqb, ltb}
 use lib.ListN.{length, replicate, set}
@@ -43,6 +43,10 @@ result link size errors warnings = record {
   warnings = filled 2 warnings;
   «warning_count» = length warnings;
 }
+
+-- neither an error nor a warning
+unfoldable pub faultless : ValidationResult → Bool
+faultless r = eqb (r .«error_count») 0 && eqb (r .«warning_count») 0
 
 -- zeros: what stands where nothing was validated
 abbrev pub noResult : ValidationResult

@@ -1,12 +1,12 @@
 -- Which link the octets tell: one law for each test and each answer.
 -- Assumes nothing.
-use mathlib.Core.Path.{_≡_, sym, ap, _∙_}
-use mathlib.Core.Bool.{true, false, and-false}
-use mathlib.Core.List.{List, []}
+use mathlib.Core.Path.{_≡_, refl, sym, ap, _∙_}
+use mathlib.Core.Bool.{Bool, true, false, cond, _&&_, and-false}
+use mathlib.Core.List.{List, [], _∷_}
 use Prim.Native.Nat.{ℕ, _+_, _*_, _≤_, _<_}
 use native.Mathlib.Omega.{arith}
 use borrow.Author.Tests.{eq-eqb, ne-eqb, lt-ltb, le-ltb}
-use lib.Dec.{eqb}
+use lib.Dec.{eqb, ltb}
 use lib.ListN.{length, getD, List·getD-eq-default}
 use Rattle.crc.specs.declared.CheckRule.{CheckRule}
 use Rattle.mstp_decode.specs.Decode.{beginsPreamble}
@@ -16,8 +16,12 @@ use Rattle.findings.specs.declared.LinkType.{LinkType}
 use Rattle.findings.specs.declared.LinkType.the-variants.{None, BacnetIp, Ethernet, MsTP}
 use Rattle.findings.specs.declared.ValidationResult.{ValidationResult}
 use Rattle.findings.specs.Finding.{frameTooShort, invalidHeader, undetermined}
-use Rattle.findings.specs.Result.{finds, found, errorsOf, result, withError}
+use Rattle.findings.specs.Result.{finds, found, errorsOf, result, faultless, withError}
 use Rattle.findings.proofs.Gathered.{one-error}
+use Rattle.findings.proofs.NoFindings.{clean}
+use Rattle.validation_mstp.proofs.NoFindings as mstp
+use Rattle.validation_ip.proofs.NoFindings as ip
+use Rattle.validation_ethernet.proofs.NoFindings as ethernet
 use Rattle.validation.specs.Frame.{linkOf, noLinkErrors, resultOf, frameResult}
 
 -- an octet that is not there is no octet but 0
@@ -80,3 +84,24 @@ module _ (size : ℕ) {none r : ValidationResult} (is-none : none ≡ result Non
   unfolding noLinkErrors errorsOf found
   some-octets long is-r =
       is-r ∙ rw (is-none, le-ltb size 1 long) (one-error None size [] [] (finds true (invalidHeader undetermined 0)) (omega arith))
+
+-- and so a fault
+pub no-link-at-fault : (size : ℕ) → false ≡ faultless (result None size (noLinkErrors size) [])
+unfolding faultless result noLinkErrors errorsOf found
+no-link-at-fault size = by (ltb size 1)
+  where
+    by : (none : Bool) → false ≡ eqb (length (cond none (frameTooShort size 1 ∷ []) (invalidHeader undetermined 0 ∷ []))) 0 && true
+    by true = refl
+    by false = refl
+
+-- the result of its link without findings is what is answered to a frame that gives none
+pub clean-frame : (rule : CheckRule) (s : List ℕ) {link : LinkType} → link ≡ linkOf s → faultless (frameResult rule s) ≡ true
+    → result link (length s) [] [] ≡ frameResult rule s
+unfolding frameResult
+clean-frame rule s is-link none = rw is-link (by (linkOf s) none)
+  where
+    by : (at : LinkType) → faultless (resultOf at rule s) ≡ true → result at (length s) [] [] ≡ resultOf at rule s
+    by None = clean None (length s) (noLinkErrors (length s)) []
+    by BacnetIp = ip.clean-message s
+    by Ethernet = ethernet.clean-frame s
+    by MsTP = mstp.clean-frame rule s

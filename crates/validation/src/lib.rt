@@ -39,7 +39,7 @@ ghost use Rattle.ethernet_decode.specs.Frame.{bacnetType};
 ghost use Rattle.ethernet_decode.specs.Decode.{fieldOf};
 ghost use Rattle.validation_ip.specs.Tests.{bvlcType};
 ghost use Rattle.findings.specs.declared.LinkType.the-variants.{None};
-ghost use Rattle.findings.specs.Result.{result};
+ghost use Rattle.findings.specs.Result.{result, faultless};
 ghost use Rattle.validation.specs.Frame.{linkOf, noLinkErrors, frameResult};
 
 // Whether a frame begins 55 FF.
@@ -76,7 +76,7 @@ fn has_bacnet_type(frame: &[u8]) -> bool
 }
 
 // The link that a frame is taken for.
-fn link_of(frame: &[u8]) -> LinkType
+pub fn link_of(frame: &[u8]) -> LinkType
     ensures { λ r. ⌜ r ≡ linkOf (now (frame .entry)) ⌝ }
 {
     if begins_mstp(frame) {
@@ -112,5 +112,18 @@ pub fn validate_frame(rule: CheckRule, frame: &[u8]) -> ValidationResult
         LinkType::BacnetIp => validate_bacnet_ip_frame(frame),
         LinkType::Ethernet => validate_ethernet_frame(frame),
         LinkType::MsTP => validate_mstp_frame(rule, frame),
+    }
+}
+
+// Whether a frame gives neither an error nor a warning to the validator of its link. The rule is for MS/TP.
+pub fn faultless(rule: CheckRule, frame: &[u8]) -> bool
+    ensures { λ r. ⌜ r ≡ faultless (frameResult rule (now (frame .entry))) ⌝ }
+{
+    let link = link_of(frame);
+    match link {
+        LinkType::None => false,
+        LinkType::BacnetIp => validation_ip::faultless(frame),
+        LinkType::Ethernet => validation_ethernet::faultless(frame),
+        LinkType::MsTP => validation_mstp::faultless(rule, frame),
     }
 }

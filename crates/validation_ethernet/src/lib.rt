@@ -18,7 +18,7 @@ ghost use mathlib.Core.List.{[], foldl};
 ghost use Prim.Native.Nat.{_≤_};
 ghost use lib.ListN.{length};
 ghost use Rattle.findings.specs.declared.LinkType.the-variants.{Ethernet};
-ghost use Rattle.findings.specs.Result.{result, withError};
+ghost use Rattle.findings.specs.Result.{result, faultless, withError};
 ghost use Rattle.validation_ethernet.specs.Tests.{llc, errorTests, broadcast, multicast, ethernetResult};
 ghost use Rattle.validation_ethernet.specs.Validity.{AgreesWithEthernet};
 
@@ -98,4 +98,27 @@ pub fn validate_ethernet_frame(frame: &[u8]) -> ValidationResult
         0,
     );
     result.warning_if(size == MIN_ETHERNET_FRAME_SIZE, UNUSUAL_FRAME_SIZE, size, 0)
+}
+
+// Whether a frame gives neither an error nor a warning.
+pub fn faultless(frame: &[u8]) -> bool
+    ensures { λ r. ⌜ r ≡ faultless (ethernetResult (now (frame .entry))) ⌝ }
+{
+    let size = frame.len();
+    if size < BACNET_ETHERNET_HEADER_SIZE {
+        return false;
+    }
+    if MAX_ETHERNET_FRAME_SIZE < size {
+        return false;
+    }
+    if octets::number(frame[12], frame[13]) != BACNET_ETHERNET_TYPE {
+        return false;
+    }
+    if llc(frame) != BACNET_LLC {
+        return false;
+    }
+    if size == MIN_ETHERNET_FRAME_SIZE {
+        return false;
+    }
+    !is_multicast(frame)
 }

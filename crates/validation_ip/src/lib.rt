@@ -16,7 +16,7 @@ ghost use mathlib.Core.List.{[], foldl};
 ghost use Prim.Native.Nat.{_≤_};
 ghost use lib.ListN.{length};
 ghost use Rattle.findings.specs.declared.LinkType.the-variants.{BacnetIp};
-ghost use Rattle.findings.specs.Result.{result, withError};
+ghost use Rattle.findings.specs.Result.{result, faultless, withError};
 ghost use Rattle.validation_ip.specs.Tests.{errorTests, changesTable, ipResult};
 ghost use Rattle.validation_ip.specs.Validity.{ValidAsRead};
 
@@ -82,4 +82,32 @@ pub fn validate_bacnet_ip_frame(message: &[u8]) -> ValidationResult
     let mut result = with_errors(message);
     result = result.warning_if(function == 0x0C, SECURITY_WARNING, SECURE_BVLL, 0);
     result.warning_if(changes_table(function), SECURITY_WARNING, TABLE_CHANGED, 0)
+}
+
+// Whether a message gives neither an error nor a warning.
+pub fn faultless(message: &[u8]) -> bool
+    ensures { λ r. ⌜ r ≡ faultless (ipResult (now (message .entry))) ⌝ }
+{
+    let size = message.len();
+    if size < BVLC_HEADER_SIZE {
+        return false;
+    }
+    if message[0] != BVLC_TYPE {
+        return false;
+    }
+    let function = message[1];
+    if LAST_FUNCTION < function {
+        return false;
+    }
+    let declared = octets::number(message[2], message[3]) as usize;
+    if declared != size {
+        return false;
+    }
+    if MAX_MESSAGE_SIZE < size {
+        return false;
+    }
+    if function == 0x0C {
+        return false;
+    }
+    !changes_table(function)
 }

@@ -41,15 +41,15 @@ type-test t = by (leb t 7) refl
 
 module _ (rule : CheckRule) (s : List ℕ) where
   -- the answers to the questions are yes, and source and length are right
-  record Right : Type 0 where
-    long : leb 8 (length s) ≡ true
-    begins : beginsPreamble s ≡ true
-    known : leb (frameType s) 7 || leb 128 (frameType s) ≡ true
-    header : headerCheckRight rule s ≡ true
-    size : eqb (length s) (frameSize (dataLength s)) ≡ true
-    body : dataCheckRight rule s ≡ true
-    sender : eqb (sourceOf s) 255 ≡ false
-    short : leb (dataLength s) 501 ≡ true
+  pub record Right : Type 0 where
+    pub long : leb 8 (length s) ≡ true
+    pub begins : beginsPreamble s ≡ true
+    pub known : leb (frameType s) 7 || leb 128 (frameType s) ≡ true
+    pub header : headerCheckRight rule s ≡ true
+    pub size : eqb (length s) (frameSize (dataLength s)) ≡ true
+    pub body : dataCheckRight rule s ≡ true
+    pub sender : eqb (sourceOf s) 255 ≡ false
+    pub short : leb (dataLength s) 501 ≡ true
 
   -- with the size right, the data check is wrong to the test exactly where it is to the question
   data-check : eqb (length s) (frameSize (dataLength s)) ≡ true
@@ -76,7 +76,7 @@ module _ (rule : CheckRule) (s : List ℕ) where
     unfolding beginsPreamble
     preamble-test = same-number (getD s 0 0) (getD s 1 0) 0x55 0xFF (octets 1) (omega arith)
 
-    right : eqb (length (mstpErrors rule s)) 0 ≡ true → Right
+    pub right : eqb (length (mstpErrors rule s)) 0 ≡ true → Right
     unfolding mstpErrors errorTests dataCheckTest headerCheckRight
     right e =
         let v = valid 8 (length s) (errorTests rule s) e in
@@ -94,7 +94,7 @@ module _ (rule : CheckRule) (s : List ℕ) where
           short = le-leb (dataLength s) 501 (ltb-false 501 (dataLength s) (t .1 .1 .1 .0));
         }
 
-    no-errors : Right → eqb (length (mstpErrors rule s)) 0 ≡ true
+    pub no-errors : Right → eqb (length (mstpErrors rule s)) 0 ≡ true
     unfolding mstpErrors errorTests dataCheckTest headerCheckRight
     no-errors r =
         valid-if 8 (length s) (errorTests rule s) (leb-true 8 (length s) (r .long)) (

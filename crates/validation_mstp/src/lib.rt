@@ -14,6 +14,7 @@ use findings::NON_STANDARD_CONFIGURATION;
 use findings::PAYLOAD_SIZE_MISMATCH;
 use findings::PROPRIETARY_TYPE;
 use findings::ValidationResult;
+use mstp_decode::MstpDecoded;
 use mstp_frame::MSTP_BROADCAST;
 use mstp_frame::MSTP_HEADER_SIZE;
 use mstp_frame::MSTP_MAX_DATA_LENGTH;
@@ -23,7 +24,7 @@ ghost use lib.ListN.{length};
 ghost use Rattle.mstp_decode.specs.Decode.{dataLength};
 ghost use mathlib.Core.List.{[], foldl};
 ghost use Rattle.findings.specs.declared.LinkType.the-variants.{MsTP};
-ghost use Rattle.findings.specs.Result.{result, withError};
+ghost use Rattle.findings.specs.Result.{result, faultless, withError};
 ghost use Rattle.validation_mstp.specs.Tests.{dataCheckTest, errorTests, masterToSlave, mstpResult};
 ghost use Rattle.validation_mstp.specs.Validity.{ValidAsRead};
 
@@ -143,4 +144,27 @@ pub fn validate_mstp_frame(rule: CheckRule, frame: &[u8]) -> ValidationResult
         MASTER_SENDS_TO_SLAVE,
         0,
     )
+}
+
+// Whether a frame gives neither an error nor a warning.
+pub fn faultless(rule: CheckRule, frame: &[u8]) -> bool
+    ensures { λ r. ⌜ r ≡ faultless (mstpResult rule (now (frame .entry))) ⌝ }
+{
+    if frame.len() < MSTP_HEADER_SIZE {
+        return false;
+    }
+    let source = frame[4];
+    if source == MSTP_BROADCAST {
+        return false;
+    }
+    if MSTP_MAX_DATA_LENGTH < octets::number(frame[5], frame[6]) as usize {
+        return false;
+    }
+    if master_to_slave(rule, frame[2], frame[3], source) {
+        return false;
+    }
+    match mstp_decode::decode(rule, frame) {
+        MstpDecoded::Frame(_) => true,
+        MstpDecoded::Refused(_) => false,
+    }
 }
