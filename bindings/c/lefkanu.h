@@ -1,25 +1,136 @@
-/* The functions of liblefkanu.a (rt staticlib lefkanu), for x86-64. A rule is 0 for Annex G or 1 for the house rule.
-   Each function answers 0, or another number and then writes nothing: one of document 01's questions, LEFKANU_NONE or
-   LEFKANU_NO_RULE. No pointer is null, and each points to as many numbers as the count behind it says; memory that is
-   written to overlaps no other; nobody else writes to any of it meanwhile. */
+/* The functions of liblefkanu.a (rt staticlib lefkanu), for x86-64.
+
+   Slices: a pointer, then how many numbers it points to. No pointer is null, also where there are none; memory that is
+   written to overlaps no other; nobody else writes to any of it meanwhile. A pointer with a size in brackets points to
+   exactly so many.
+
+   Answers: 0 where there is a result, and then it stands in the lent memory. Else the number of the first of document
+   01's questions that fails, LEFKANU_NONE, or LEFKANU_NO_CASE where a number names no rule, type or function; then
+   nothing was written.
+
+   Rules: LEFKANU_ANNEX_G or LEFKANU_HOUSE, whose octets are those of bacnet-rs. */
 #ifndef LEFKANU_H
 #define LEFKANU_H
 
 #include <stddef.h>
 #include <stdint.h>
 
-#define LEFKANU_NONE 0xFE
-#define LEFKANU_NO_RULE 0xFF
+#ifdef __cplusplus
+extern "C" {
+#endif
 
-/* The first acceptable frame that starts at a place or later: its place and octet count into report. Questions 31
-   and 33. */
-uint8_t lefkanu_find_frame(uint8_t rule, const uint8_t *run, size_t octets, size_t place, size_t report[2]);
+/* Rules. */
+#define LEFKANU_ANNEX_G 0
+#define LEFKANU_HOUSE 1
+
+/* Answers beside 0 and the numbers of questions. */
+#define LEFKANU_NONE 0xFE
+#define LEFKANU_NO_CASE 0xFF
+
+/* The Rust's error for a question: 1 InvalidFrame, 2 CrcError, 0 where the Rust does not ask it. */
+uint8_t lefkanu_data_link_error(uint8_t question);
+
+/* The check octets. */
+
+/* The header check of the five octets behind the preamble. */
+uint8_t lefkanu_calculate_header_crc(uint8_t rule, const uint8_t header[5], uint8_t *crc);
+
+/* The data check of any octets. */
+uint8_t lefkanu_crc16_mstp(uint8_t rule, const uint8_t *data, size_t data_octets, uint16_t *crc);
+
+/* MS/TP frames. */
+
+/* Reads a frame. header: type, destination, source, header check, 1 if there is a data check else 0, data check or 0,
+   place of the data in the frame, how many data octets. Questions 1 to 6. */
+uint8_t lefkanu_mstp_decode(uint8_t rule, const uint8_t *frame, size_t frame_octets, size_t header[8]);
+
+/* Writes a frame at the front of out, whose rest stays; count: how many octets it has. Questions 7 and 8. */
+uint8_t lefkanu_mstp_encode(uint8_t rule, uint8_t frame_type, uint8_t destination, uint8_t source,
+                            const uint8_t *data, size_t data_octets, uint8_t *out, size_t out_octets, size_t *count);
+
+/* BVLC messages. */
+
+/* Reads the header in front of a message. header: function, length. Questions 11 to 13. */
+uint8_t lefkanu_bvlc_decode(const uint8_t *message, size_t message_octets, size_t header[2]);
+
+/* Writes a header at the front of out, whose rest stays; count: 4. Question 16. */
+uint8_t lefkanu_bvlc_encode(uint8_t function, uint16_t length, uint8_t *out, size_t out_octets, size_t *count);
+
+/* What a message carries. carried: LEFKANU_NPDU, its place in the message, how many octets; LEFKANU_TIME_TO_LIVE, the
+   seconds, 0; or LEFKANU_NO_NPDU, 0, 0. Questions 11 to 15. */
+#define LEFKANU_NPDU 1
+#define LEFKANU_TIME_TO_LIVE 2
+#define LEFKANU_NO_NPDU 3
+uint8_t lefkanu_process_bvlc_message(const uint8_t *message, size_t message_octets, size_t carried[3]);
+
+/* Ethernet frames. */
+
+/* Reads a frame: both addresses; payload: its place in the frame, how many octets, padding among them. Questions 21 to
+   23. */
+uint8_t lefkanu_ethernet_decode(const uint8_t *frame, size_t frame_octets, uint8_t dest_mac[6], uint8_t src_mac[6],
+                                size_t payload[2]);
+
+/* The validator of ethernet.rs: 0 where it accepts. Questions 21, 24, 22 and 23. */
+uint8_t lefkanu_ethernet_validate(const uint8_t *frame, size_t frame_octets);
+
+/* Writes a frame at the front of out, whose rest stays; count: how many octets it has. Questions 24 and 25. */
+uint8_t lefkanu_ethernet_encode(const uint8_t dest_mac[6], const uint8_t src_mac[6], const uint8_t *payload,
+                                size_t payload_octets, uint8_t *out, size_t out_octets, size_t *count);
+
+/* The validators of validation.rs. result: 1 if valid else 0, link (0 none, 1 BACnet/IP, 2 Ethernet, 3 MS/TP), size, how
+   many errors, how many warnings, then seven entries for errors and two for warnings, each a kind and two numbers; an
+   unused entry is all 0. */
+#define LEFKANU_RESULT_NUMBERS 32
+uint8_t lefkanu_validate_mstp_frame(uint8_t rule, const uint8_t *frame, size_t frame_octets, size_t result[32]);
+void lefkanu_validate_bacnet_ip_frame(const uint8_t *message, size_t message_octets, size_t result[32]);
+void lefkanu_validate_ethernet_frame(const uint8_t *frame, size_t frame_octets, size_t result[32]);
+
+/* By the validator of the link that the octets tell. */
+uint8_t lefkanu_validate_frame(uint8_t rule, const uint8_t *frame, size_t frame_octets, size_t result[32]);
+
+/* Statistics: how many octets have each value. counts: how many are 00, how many 80 or more, octet and length of the
+   longest run. Question 31. */
+uint8_t lefkanu_calculate_frame_statistics(const uint8_t *frame, size_t frame_octets, uint32_t byte_distribution[256],
+                                           size_t counts[4]);
+
+/* Patterns: four numbers for each at the front of out, whose rest stays: pattern (1 padding, 2 text, 3 zeros, 4
+   sequence), start, length, octet value; count: how many patterns. Questions 31 and 32. */
+uint8_t lefkanu_detect_patterns(const uint8_t *frame, size_t frame_octets, uint32_t *out, size_t out_numbers,
+                                size_t *count);
+
+/* lefkanu_validate_frame, the statistics and the patterns together. Questions 31 and 32. */
+uint8_t lefkanu_analyze_frame(uint8_t rule, const uint8_t *frame, size_t frame_octets, size_t result[32],
+                              uint32_t byte_distribution[256], size_t counts[4], uint32_t *out, size_t out_numbers,
+                              size_t *count);
+
+/* Runs of bus octets. */
+
+/* The first acceptable frame that starts at a place or later. report: its place, how many octets; LEFKANU_NONE where
+   there is none. Questions 31 and 33. */
+uint8_t lefkanu_find_frame(uint8_t rule, const uint8_t *run, size_t run_octets, size_t place, size_t report[2]);
 
 /* How many frames a whole reading finds. Question 31. */
-uint8_t lefkanu_count_frames(uint8_t rule, const uint8_t *run, size_t octets, size_t *count);
+uint8_t lefkanu_count_frames(uint8_t rule, const uint8_t *run, size_t run_octets, size_t *count);
 
-/* Place and octet count of each frame of a whole reading, at the front of out. Questions 31 and 32. */
-uint8_t lefkanu_read_frames(uint8_t rule, const uint8_t *run, size_t octets, uint32_t *out, size_t numbers,
+/* Place and octet count of each frame of a whole reading, at the front of out, whose rest stays; count: how many frames.
+   Questions 31 and 32. */
+uint8_t lefkanu_read_frames(uint8_t rule, const uint8_t *run, size_t run_octets, uint32_t *out, size_t out_numbers,
                             size_t *count);
+
+/* Logs. */
+
+/* The record that ends at an end of the log. record: kind (1 bus, 2 IP, 3 Ethernet), place of its first octet, how many
+   octets; the next older record ends at that place. LEFKANU_NONE where the log's start is reached. Questions 47 and 41 to
+   44. */
+uint8_t lefkanu_read_record(const uint8_t *log, size_t log_octets, size_t end, size_t record[3]);
+
+/* Writes a record behind the first `used` octets of a buffer, and nothing else; new_used: how many are used now.
+   Questions 47, 42, 43 and 46. */
+uint8_t lefkanu_append(uint8_t *buffer, size_t buffer_octets, size_t used, uint8_t kind, const uint8_t *payload,
+                       size_t payload_octets, size_t *new_used);
+
+#ifdef __cplusplus
+}
+#endif
 
 #endif

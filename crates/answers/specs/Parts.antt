@@ -1,0 +1,35 @@
+-- Numbers that name a part of the caller's octets: its place, then its octet count.
+-- Assumes nothing.
+use Prim.Native.Nat.{ℕ, _+_, _-_}
+use mathlib.Core.List.{List, [], _∷_}
+use lib.ListN.{getD, take, drop}
+use Rattle.finder.specs.declared.Report.{Report}
+use Rattle.log_record.specs.declared.LogRecord.{LogRecord}
+
+-- what a BVLC message carries: 1 and an NPDU from a start to the message's size, as place and octet count
+abbrev pub npduNumbers : ℕ → ℕ → List ℕ
+npduNumbers start size = 1 ∷ start ∷ (size - start) ∷ []
+
+-- 2 and a time to live
+abbrev pub timeToLiveNumbers : ℕ → List ℕ
+timeToLiveNumbers n = 2 ∷ n ∷ 0 ∷ []
+
+-- 3: no NPDU
+abbrev pub noNpduNumbers : List ℕ
+noNpduNumbers = 3 ∷ 0 ∷ 0 ∷ []
+
+-- the payload of an Ethernet frame of a size: place and octet count
+abbrev pub payloadNumbers : ℕ → List ℕ
+payloadNumbers size = 17 ∷ (size - 17) ∷ []
+
+-- a report: place and octet count
+abbrev pub reportNumbers : Report → List ℕ
+reportNumbers r = r .place ∷ r .count ∷ []
+
+-- a record of the log: kind, place of its first octet, octet count
+abbrev pub recordNumbers : LogRecord → List ℕ
+recordNumbers x = x .kind ∷ x .start ∷ x .length ∷ []
+
+-- the part of some octets that two numbers of a list name, those from i on: its place and its octet count
+abbrev pub partNamed : ℕ → List ℕ → List ℕ → List ℕ
+partNamed i numbers s = take (getD numbers (i + 1) 0) (drop (getD numbers i 0) s)

@@ -1,0 +1,28 @@
+-- `lefkanu::lefkanu_crc16_mstp` meets its contract: the check is the one under the rule that the number names, and where it names none nothing is written.
+-- Assumes nothing.
+use mathlib.Core.Path.{refl}
+use native.Mathlib.Omega.{arith}
+use Rattle.crc.specs.Rule.{dataCheck}
+use Rattle.lefkanu.proofs.Cases.{no-rule, under}
+use borrow.Author.Needs.{needs}
+use Rattle.lefkanu.proofs.checks.lefkanu_crc16_mstp.Statement.{statement}
+use Rattle.lefkanu.proofs.checks.lefkanu_crc16_mstp.Tie as tie
+
+returns : tie.Need-returns
+returns c = (no-rule _ _ _ (omega arith), no-rule _ _ _ (omega arith))
+
+rule-of-requires : tie.Need-rule-of-requires
+rule-of-requires c κs = search needs
+
+crc16-mstp-requires : tie.Need-crc16-mstp-requires
+crc16-mstp-requires c κs = search needs
+
+returns-2 : tie.Need-returns-2
+returns-2 c =
+    let low = c .before .before .if1 .left in
+    let named = c .before .rule-of .ensures in
+    (under _ (λ _. 0) (λ n. n) _ low named refl, under _ (λ rule. dataCheck rule _) (λ n. n) _ low named (c .crc16-mstp .ensures))
+
+pub lefkanu-crc16-mstp-spec : {M : Type 1} → statement M
+lefkanu-crc16-mstp-spec =
+    tie.close (tie.spec returns rule-of-requires crc16-mstp-requires returns-2)

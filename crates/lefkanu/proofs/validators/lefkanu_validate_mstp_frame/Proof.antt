@@ -1,0 +1,61 @@
+-- `lefkanu::lefkanu_validate_mstp_frame` meets its contract: the numbers are those of the result under the rule that the number names, and where it names none nothing is written.
+-- Assumes nothing.
+use mathlib.Core.Path.{refl, sym, _∙_}
+use native.Mathlib.Omega.{arith}
+use Rattle.validation_mstp.specs.Tests.{mstpResult}
+use Rattle.validation_mstp.proofs.NoFindings.{clean-frame}
+use Rattle.numbers.specs.Layout.{resultNumbers}
+use Rattle.lefkanu.proofs.Cases.{no-rule, under}
+use borrow.Author.Needs.{needs}
+use Rattle.lefkanu.proofs.validators.lefkanu_validate_mstp_frame.Statement.{statement}
+use Rattle.lefkanu.proofs.validators.lefkanu_validate_mstp_frame.Tie as tie
+
+returns : tie.Need-returns
+returns c = (no-rule _ _ _ (omega arith), no-rule _ _ _ (omega arith))
+
+rule-of-requires : tie.Need-rule-of-requires
+rule-of-requires c κs = search needs
+
+faultless-requires : tie.Need-faultless-requires
+faultless-requires c κs = search needs
+
+clean-numbers-requires : tie.Need-clean-numbers-requires
+clean-numbers-requires c κs = search needs
+
+returns-2 : tie.Need-returns-2
+returns-2 c =
+    let a = c .before in
+    let low = a .before .before .before .if1 .left in
+    let named = a .before .before .rule-of .ensures in
+    let none = clean-frame _ _ (sym (a .before .faultless .ensures) ∙ a .if2 .taken) in (
+      under _ (λ _. 0) (λ n. n) _ low named refl,
+      c .clean-numbers .ensures ∙ under _ (λ rule. mstpResult rule _) resultNumbers _ low named none,
+    )
+
+validate-mstp-frame-requires : tie.Need-validate-mstp-frame-requires
+validate-mstp-frame-requires c κs = search needs
+
+result-numbers-requires : tie.Need-result-numbers-requires
+result-numbers-requires c κs = search needs
+
+returns-3 : tie.Need-returns-3
+returns-3 c =
+    let a = c .before .before in
+    let low = a .before .before .before .if1 .left in
+    let named = a .before .before .rule-of .ensures in (
+      under _ (λ _. 0) (λ n. n) _ low named refl,
+      c .result-numbers .ensures ∙ under _ (λ rule. mstpResult rule _) resultNumbers _ low named (c .before .validate-mstp-frame .ensures .0),
+    )
+
+pub lefkanu-validate-mstp-frame-spec : {M : Type 1} → statement M
+lefkanu-validate-mstp-frame-spec =
+    tie.close
+    (tie.spec
+    returns
+    rule-of-requires
+    faultless-requires
+    clean-numbers-requires
+    returns-2
+    validate-mstp-frame-requires
+    result-numbers-requires
+    returns-3)

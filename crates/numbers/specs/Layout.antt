@@ -1,0 +1,73 @@
+-- Results as lists of numbers: their layout in lent memory.
+-- Assumes nothing.
+use Prim.Native.Nat.{ℕ}
+use mathlib.Core.Bool.{cond}
+use mathlib.Core.List.{List, [], _∷_, _++_, flatMap}
+use Rattle.datalink.specs.declared.DataLinkError.{DataLinkError}
+use Rattle.datalink.specs.declared.DataLinkError.the-variants.{InvalidFrame, CrcError, Unmatched}
+use Rattle.mstp_frame.specs.FrameType.{typeNumber}
+use Rattle.mstp_decode.specs.declared.DataCrc.{DataCrc}
+use Rattle.mstp_decode.specs.declared.DataCrc.the-variants.{Present, Absent}
+use Rattle.mstp_decode.specs.declared.MstpHeader.{MstpHeader}
+use Rattle.bvlc.specs.declared.BvlcHeader.{BvlcHeader}
+use Rattle.bvlc.specs.Function.{functionNumber}
+use Rattle.findings.specs.declared.Finding.{Finding}
+use Rattle.findings.specs.declared.ValidationResult.{ValidationResult}
+use Rattle.findings.specs.Link.{linkNumber}
+use Rattle.statistics.specs.declared.FrameStatistics.{FrameStatistics}
+
+-- the number of an error; 0 where the Rust has none
+abbrev pub errorNumber : DataLinkError → ℕ
+errorNumber InvalidFrame = 1
+errorNumber CrcError = 2
+errorNumber Unmatched = 0
+
+-- 1 if there is a data check, 0 if not
+abbrev pub dataCrcThere : DataCrc → ℕ
+dataCrcThere (Present crc) = 1
+dataCrcThere Absent = 0
+
+-- the data check, or 0
+abbrev pub dataCrcNumber : DataCrc → ℕ
+dataCrcNumber (Present crc) = crc
+dataCrcNumber Absent = 0
+
+-- an MS/TP header: type, destination, source, header check, data check, and place and count of the data
+unfoldable pub headerNumbers : MstpHeader → List ℕ
+headerNumbers h =
+    typeNumber (h .«frame_type»)
+    ∷ h .destination
+    ∷ h .source
+    ∷ h .«header_crc»
+    ∷ dataCrcThere (h .«data_crc»)
+    ∷ dataCrcNumber (h .«data_crc»)
+    ∷ 8
+    ∷ h .«data_length»
+    ∷ []
+
+-- a BVLC header: function and length
+abbrev pub bvlcNumbers : BvlcHeader → List ℕ
+bvlcNumbers h = functionNumber (h .function) ∷ h .length ∷ []
+
+-- an entry: its kind and two numbers
+abbrev pub entryNumbers : Finding → List ℕ
+entryNumbers entry = entry .kind ∷ entry .first ∷ entry .second ∷ []
+
+-- a validator's result: validity, link, size, both counts, then the entries of errors and of warnings
+unfoldable pub resultNumbers : ValidationResult → List ℕ
+resultNumbers r =
+    cond (r .«is_valid») 1 0
+    ∷ linkNumber (r .«link_type»)
+    ∷ r .«frame_size»
+    ∷ r .«error_count»
+    ∷ r .«warning_count»
+    ∷ flatMap entryNumbers (r .errors ++ r .warnings)
+
+-- statistics beside the distribution: octets 00, octets of 80 or more, octet and length of the longest run
+unfoldable pub countNumbers : FrameStatistics → List ℕ
+countNumbers t =
+    t .«null_bytes»
+    ∷ t .«high_bytes»
+    ∷ t .«longest_run» .octet
+    ∷ t .«longest_run» .length
+    ∷ []

@@ -1,0 +1,31 @@
+-- The numbers that callers give for rules, types and functions.
+-- Assumes nothing.
+use Prim.Native.Nat.{ℕ}
+use mathlib.Core.Bool.{cond}
+use lib.Dec.{leb, eqb}
+use Rattle.crc.specs.declared.CheckRule.{CheckRule}
+use Rattle.crc.specs.declared.CheckRule.the-variants.{AnnexG, House}
+use Rattle.mstp_frame.specs.declared.MstpFrameType.{MstpFrameType}
+use Rattle.mstp_frame.specs.FrameType.{typeOf}
+use Rattle.bvlc.specs.declared.function.BvlcFunction.{BvlcFunction}
+use Rattle.bvlc.specs.Function.{functionOf}
+
+-- what there is for the case of a number from 0 to the last; something else where the number names none
+unfoldable pub forCase : {A B : Type 0} → ℕ → (ℕ → A) → ℕ → (A → B) → B → B
+forCase last caseOf number known unknown = cond (leb number last) (known (caseOf number)) unknown
+
+-- the rule of a number: 0 Annex G, 1 the house rule
+unfoldable pub ruleOf : ℕ → CheckRule
+ruleOf number = cond (eqb number 0) AnnexG House
+
+-- under the rule of a number
+abbrev pub underRule : {B : Type 0} → ℕ → (CheckRule → B) → B → B
+underRule = forCase 1 ruleOf
+
+-- for the frame type of a number
+abbrev pub ofType : {B : Type 0} → ℕ → (MstpFrameType → B) → B → B
+ofType = forCase 7 typeOf
+
+-- for the BVLC function of a number
+abbrev pub ofFunction : {B : Type 0} → ℕ → (BvlcFunction → B) → B → B
+ofFunction = forCase 0x0C functionOf

@@ -1,0 +1,37 @@
+// Rules and results as numbers, for callers in other languages.
+mod layout;
+
+use crc::CheckRule;
+use datalink::DataLinkError;
+pub use layout::bvlc_numbers;
+pub use layout::clean_numbers;
+pub use layout::count_numbers;
+pub use layout::header_numbers;
+pub use layout::result_numbers;
+ghost use mathlib.Core.Path.{_≡_};
+ghost use Rattle.numbers.specs.Layout.{errorNumber};
+ghost use Rattle.numbers.specs.Named.{ruleOf};
+
+// The largest number of a rule: 0 is Annex G, 1 the house rule.
+pub const LAST_RULE: u8 = 1;
+
+// The rule of a number, 0 or 1; above 1 the last.
+pub fn rule_of(number: u8) -> CheckRule
+    ensures { λ r. ⌜ r ≡ ruleOf number ⌝ }
+{
+    if number == 0 {
+        return CheckRule::AnnexG;
+    }
+    CheckRule::House
+}
+
+// The number of an error.
+pub fn error_number(error: DataLinkError) -> u8
+    ensures { λ r. ⌜ r ≡ errorNumber error ⌝ }
+{
+    match error {
+        DataLinkError::InvalidFrame => 1,
+        DataLinkError::CrcError => 2,
+        DataLinkError::Unmatched => 0,
+    }
+}
