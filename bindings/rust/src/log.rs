@@ -1,0 +1,121 @@
+//! The log: records, each with its kind and length behind it.
+
+use crate::datalink::{DataLinkError, Result};
+use crate::raw;
+use std::iter::FusedIterator;
+
+/// What the octets of a record are.
+#[derive(Debug, Clone, Copy, PartialEq, Eq, Hash)]
+#[repr(u8)]
+pub enum RecordKind {
+    /// A run of MS/TP bus octets.
+    Bus = 1,
+    /// A BVLC message.
+    Ip = 2,
+    /// An Ethernet frame.
+    Ethernet = 3,
+}
+
+impl TryFrom<u8> for RecordKind {
+    type Error = DataLinkError;
+
+    /// The kind of a number. Refused with 42 but for 1 to 3.
+    fn try_from(value: u8) -> Result<Self> {
+        Ok(match value {
+            1 => Self::Bus,
+            2 => Self::Ip,
+            3 => Self::Ethernet,
+            _ => return Err(DataLinkError::of(42)),
+        })
+    }
+}
+
+/// A record of a log.
+#[derive(Debug, Clone, Copy, PartialEq, Eq)]
+pub struct Record<'a> {
+    /// What its octets are.
+    pub kind: RecordKind,
+    /// The place of its first octet: the next older record ends there.
+    pub start: usize,
+    /// Its octets.
+    pub payload: &'a [u8],
+}
+
+/// The record that ends at an end; none where the log's start is reached. Refused with 47, or 41 to 44.
+///
+/// ```
+/// use lefkanu::log::{read_record, RecordKind};
+///
+/// let log = [0xAA, 0xBB, 1, 0, 2, 0xCC, 2, 0, 1];
+/// let newest = read_record(&log, log.len())?.unwrap();
+/// assert_eq!((newest.kind, newest.start, newest.payload), (RecordKind::Ip, 5, &[0xCC][..]));
+/// # Ok::<(), lefkanu::datalink::DataLinkError>(())
+/// ```
+pub fn read_record(log: &[u8], end: usize) -> Result<Option<Record<'_>>> {
+    let Some([kind, start, count]) = raw::read_record(log, end)? else {
+        return Ok(None);
+    };
+    Ok(Some(Record {
+        // Reading has asked question 42 already.
+        kind: RecordKind::try_from(kind as u8)?,
+        start,
+        payload: &log[start..start + count],
+    }))
+}
+
+/// Writes a record behind the first `used` octets of a buffer, and nothing else; answers how many are used now. Refused
+/// with 47, 43 or 46, and then nothing is written.
+///
+/// ```
+/// use lefkanu::log::{append, RecordKind};
+///
+/// let mut buffer = [0; 10];
+/// let used = append(&mut buffer, 0, RecordKind::Bus, &[0xAA, 0xBB])?;
+/// assert_eq!(buffer[..used], [0xAA, 0xBB, 1, 0, 2]);
+/// # Ok::<(), lefkanu::datalink::DataLinkError>(())
+/// ```
+pub fn append(buffer: &mut [u8], used: usize, kind: RecordKind, payload: &[u8]) -> Result<usize> {
+    raw::append(buffer, used, kind, payload)
+}
+
+/// The records of a log, newest first. It ends where the log's start is reached, or after an error.
+///
+/// ```
+/// use lefkanu::log::Records;
+///
+/// let log = [0xAA, 0xBB, 1, 0, 2, 0xCC, 2, 0, 1];
+/// let newest_first: Vec<_> = Records::new(&log).map(|record| record.unwrap().payload).collect();
+/// assert_eq!(newest_first, [&[0xCC][..], &[0xAA, 0xBB]]);
+/// ```
+#[derive(Debug, Clone)]
+pub struct Records<'a> {
+    log: &'a [u8],
+    end: Option<usize>,
+}
+
+impl<'a> Records<'a> {
+    /// The records from the end of a log.
+    pub fn new(log: &'a [u8]) -> Self {
+        Self::ending_at(log, log.len())
+    }
+
+    /// The records from another end, as where the newest octets of a log are damaged.
+    pub fn ending_at(log: &'a [u8], end: usize) -> Self {
+        Self {
+            log,
+            end: Some(end),
+        }
+    }
+}
+
+impl<'a> Iterator for Records<'a> {
+    type Item = Result<Record<'a>>;
+
+    fn next(&mut self) -> Option<Self::Item> {
+        let read = read_record(self.log, self.end.take()?).transpose()?;
+        self.end = read.ok().map(|record| record.start);
+        Some(read)
+    }
+}
+
+impl FusedIterator for Records<'_> {}

@@ -1,0 +1,353 @@
+//! The only place with unsafe code: a safe form of each function of the library.
+//!
+//! What a caller of the library has to keep, and who keeps it here:
+//! - a pointer comes with its length: both come from one slice, or the pointer is to an array of the size declared;
+//! - no pointer is null: references and slices have none, an empty slice a dangling one that is not null;
+//! - memory that is written to overlaps no other, and nobody else writes to any of it meanwhile: it is behind `&mut`, or
+//!   a local; the rest is behind `&`.
+//!
+//! The answer FF, for a number that names no rule, type or function, does not come: the numbers are those of the cases
+//! of `CheckRule` (0, 1), `MstpFrameType` (0 to 7) and `BvlcFunction` (00 to 0C), and these are all named.
+
+use crate::datalink::bip::BvlcFunction;
+use crate::datalink::mstp::MstpFrameType;
+use crate::datalink::{DataLinkError, Result};
+use crate::ffi;
+use crate::log::RecordKind;
+use crate::CheckRule;
+
+#[cfg(test)]
+mod tests;
+
+/// What a validator answers, as numbers.
+pub(crate) type Findings = [usize; ffi::RESULT_NUMBERS];
+
+/// What the statistics answer, as numbers.
+pub(crate) struct Counts {
+    pub(crate) byte_distribution: [u32; 256],
+    pub(crate) counts: [usize; 4],
+}
+
+/// What a BVLC message carries, with places in the message.
+pub(crate) enum Carried {
+    Npdu { place: usize, count: usize },
+    TimeToLive(u16),
+    NoNpdu,
+}
+
+/// The value, if the answer is 0; else the question's error.
+fn answered<T>(answer: u8, value: T) -> Result<T> {
+    debug_assert_ne!(answer, ffi::NO_CASE);
+    match answer {
+        0 => Ok(value),
+        question => Err(DataLinkError::of(question)),
+    }
+}
+
+/// The value, if the answer is 0; nothing, if it is "none"; else the question's error.
+fn found<T>(answer: u8, value: T) -> Result<Option<T>> {
+    match answer {
+        ffi::NONE => Ok(None),
+        _ => answered(answer, Some(value)),
+    }
+}
+
+/// The value of a function that refuses nothing but what is no case.
+fn given<T>(answer: u8, value: T) -> T {
+    debug_assert_eq!(answer, 0);
+    value
+}
+
+pub(crate) fn data_link_error(question: u8) -> u8 {
+    // SAFETY: numbers only.
+    unsafe { ffi::lefkanu_data_link_error(question) }
+}
+
+pub(crate) fn calculate_header_crc(rule: CheckRule, header: &[u8; 5]) -> u8 {
+    let mut crc = 0;
+    // SAFETY: `header` has five octets; `crc` is a local.
+    let answer = unsafe { ffi::lefkanu_calculate_header_crc(rule as u8, header, &mut crc) };
+    given(answer, crc)
+}
+
+pub(crate) fn crc16_mstp(rule: CheckRule, data: &[u8]) -> u16 {
+    let mut crc = 0;
+    // SAFETY: pointer and length are of `data`; `crc` is a local.
+    let answer =
+        unsafe { ffi::lefkanu_crc16_mstp(rule as u8, data.as_ptr(), data.len(), &mut crc) };
+    given(answer, crc)
+}
+
+pub(crate) fn mstp_decode(rule: CheckRule, frame: &[u8]) -> Result<[usize; 8]> {
+    let mut header = [0; 8];
+    // SAFETY: pointer and length are of `frame`; `header` is a local of eight numbers.
+    let answer =
+        unsafe { ffi::lefkanu_mstp_decode(rule as u8, frame.as_ptr(), frame.len(), &mut header) };
+    answered(answer, header)
+}
+
+pub(crate) fn mstp_encode(
+    rule: CheckRule,
+    frame_type: MstpFrameType,
+    destination: u8,
+    source: u8,
+    data: &[u8],
+    out: &mut [u8],
+) -> Result<usize> {
+    let mut count = 0;
+    // SAFETY: pointers and lengths are of `data` and of `out`, which is lent alone; `count` is a local.
+    let answer = unsafe {
+        ffi::lefkanu_mstp_encode(
+            rule as u8,
+            frame_type as u8,
+            destination,
+            source,
+            data.as_ptr(),
+            data.len(),
+            out.as_mut_ptr(),
+            out.len(),
+            &mut count,
+        )
+    };
+    answered(answer, count)
+}
+
+pub(crate) fn bvlc_decode(message: &[u8]) -> Result<[usize; 2]> {
+    let mut header = [0; 2];
+    // SAFETY: pointer and length are of `message`; `header` is a local of two numbers.
+    let answer = unsafe { ffi::lefkanu_bvlc_decode(message.as_ptr(), message.len(), &mut header) };
+    answered(answer, header)
+}
+
+pub(crate) fn bvlc_encode(function: BvlcFunction, length: u16, out: &mut [u8]) -> Result<usize> {
+    let mut count = 0;
+    // SAFETY: pointer and length are of `out`, which is lent alone; `count` is a local.
+    let answer = unsafe {
+        ffi::lefkanu_bvlc_encode(
+            function as u8,
+            length,
+            out.as_mut_ptr(),
+            out.len(),
+            &mut count,
+        )
+    };
+    answered(answer, count)
+}
+
+pub(crate) fn process_bvlc_message(message: &[u8]) -> Result<Carried> {
+    let mut carried = [0; 3];
+    // SAFETY: pointer and length are of `message`; `carried` is a local of three numbers.
+    let answer =
+        unsafe { ffi::lefkanu_process_bvlc_message(message.as_ptr(), message.len(), &mut carried) };
+    let [what, first, second] = answered(answer, carried)?;
+    Ok(match what {
+        ffi::NPDU => Carried::Npdu {
+            place: first,
+            count: second,
+        },
+        ffi::TIME_TO_LIVE => Carried::TimeToLive(first as u16),
+        ffi::NO_NPDU => Carried::NoNpdu,
+        _ => unreachable!("a message carries an NPDU, a time to live or none of them"),
+    })
+}
+
+pub(crate) fn ethernet_decode(frame: &[u8]) -> Result<([u8; 6], [u8; 6], [usize; 2])> {
+    let (mut dest_mac, mut src_mac, mut payload) = ([0; 6], [0; 6], [0; 2]);
+    // SAFETY: pointer and length are of `frame`; the others are three locals of six, six and two.
+    let answer = unsafe {
+        ffi::lefkanu_ethernet_decode(
+            frame.as_ptr(),
+            frame.len(),
+            &mut dest_mac,
+            &mut src_mac,
+            &mut payload,
+        )
+    };
+    answered(answer, (dest_mac, src_mac, payload))
+}
+
+pub(crate) fn ethernet_validate(frame: &[u8]) -> Result<()> {
+    // SAFETY: pointer and length are of `frame`.
+    let answer = unsafe { ffi::lefkanu_ethernet_validate(frame.as_ptr(), frame.len()) };
+    answered(answer, ())
+}
+
+pub(crate) fn ethernet_encode(
+    dest_mac: &[u8; 6],
+    src_mac: &[u8; 6],
+    payload: &[u8],
+    out: &mut [u8],
+) -> Result<usize> {
+    let mut count = 0;
+    // SAFETY: the addresses have six octets; pointers and lengths are of `payload` and of `out`, which is lent alone;
+    // `count` is a local.
+    let answer = unsafe {
+        ffi::lefkanu_ethernet_encode(
+            dest_mac,
+            src_mac,
+            payload.as_ptr(),
+            payload.len(),
+            out.as_mut_ptr(),
+            out.len(),
+            &mut count,
+        )
+    };
+    answered(answer, count)
+}
+
+pub(crate) fn validate_mstp_frame(rule: CheckRule, frame: &[u8]) -> Findings {
+    let mut result = [0; ffi::RESULT_NUMBERS];
+    // SAFETY: pointer and length are of `frame`; `result` is a local of the size declared.
+    let answer = unsafe {
+        ffi::lefkanu_validate_mstp_frame(rule as u8, frame.as_ptr(), frame.len(), &mut result)
+    };
+    given(answer, result)
+}
+
+pub(crate) fn validate_bacnet_ip_frame(message: &[u8]) -> Findings {
+    let mut result = [0; ffi::RESULT_NUMBERS];
+    // SAFETY: pointer and length are of `message`; `result` is a local of the size declared.
+    unsafe { ffi::lefkanu_validate_bacnet_ip_frame(message.as_ptr(), message.len(), &mut result) };
+    result
+}
+
+pub(crate) fn validate_ethernet_frame(frame: &[u8]) -> Findings {
+    let mut result = [0; ffi::RESULT_NUMBERS];
+    // SAFETY: pointer and length are of `frame`; `result` is a local of the size declared.
+    unsafe { ffi::lefkanu_validate_ethernet_frame(frame.as_ptr(), frame.len(), &mut result) };
+    result
+}
+
+pub(crate) fn validate_frame(rule: CheckRule, frame: &[u8]) -> Findings {
+    let mut result = [0; ffi::RESULT_NUMBERS];
+    // SAFETY: pointer and length are of `frame`; `result` is a local of the size declared.
+    let answer = unsafe {
+        ffi::lefkanu_validate_frame(rule as u8, frame.as_ptr(), frame.len(), &mut result)
+    };
+    given(answer, result)
+}
+
+pub(crate) fn calculate_frame_statistics(frame: &[u8]) -> Result<Counts> {
+    let (mut byte_distribution, mut counts) = ([0; 256], [0; 4]);
+    // SAFETY: pointer and length are of `frame`; the others are two locals of 256 and four numbers.
+    let answer = unsafe {
+        ffi::lefkanu_calculate_frame_statistics(
+            frame.as_ptr(),
+            frame.len(),
+            &mut byte_distribution,
+            &mut counts,
+        )
+    };
+    answered(
+        answer,
+        Counts {
+            byte_distribution,
+            counts,
+        },
+    )
+}
+
+pub(crate) fn detect_patterns(frame: &[u8], out: &mut [u32]) -> Result<usize> {
+    let mut count = 0;
+    // SAFETY: pointers and lengths are of `frame` and of `out`, which is lent alone; `count` is a local.
+    let answer = unsafe {
+        ffi::lefkanu_detect_patterns(
+            frame.as_ptr(),
+            frame.len(),
+            out.as_mut_ptr(),
+            out.len(),
+            &mut count,
+        )
+    };
+    answered(answer, count)
+}
+
+pub(crate) fn analyze_frame(
+    rule: CheckRule,
+    frame: &[u8],
+    out: &mut [u32],
+) -> Result<(Findings, Counts, usize)> {
+    let (mut result, mut byte_distribution) = ([0; ffi::RESULT_NUMBERS], [0; 256]);
+    let (mut counts, mut count) = ([0; 4], 0);
+    // SAFETY: pointers and lengths are of `frame` and of `out`, which is lent alone; the others are four locals of the
+    // sizes declared.
+    let answer = unsafe {
+        ffi::lefkanu_analyze_frame(
+            rule as u8,
+            frame.as_ptr(),
+            frame.len(),
+            &mut result,
+            &mut byte_distribution,
+            &mut counts,
+            out.as_mut_ptr(),
+            out.len(),
+            &mut count,
+        )
+    };
+    let counts = Counts {
+        byte_distribution,
+        counts,
+    };
+    answered(answer, (result, counts, count))
+}
+
+pub(crate) fn find_frame(rule: CheckRule, run: &[u8], place: usize) -> Result<Option<[usize; 2]>> {
+    let mut report = [0; 2];
+    // SAFETY: pointer and length are of `run`; `report` is a local of two numbers.
+    let answer =
+        unsafe { ffi::lefkanu_find_frame(rule as u8, run.as_ptr(), run.len(), place, &mut report) };
+    found(answer, report)
+}
+
+pub(crate) fn count_frames(rule: CheckRule, run: &[u8]) -> Result<usize> {
+    let mut count = 0;
+    // SAFETY: pointer and length are of `run`; `count` is a local.
+    let answer =
+        unsafe { ffi::lefkanu_count_frames(rule as u8, run.as_ptr(), run.len(), &mut count) };
+    answered(answer, count)
+}
+
+pub(crate) fn read_frames(rule: CheckRule, run: &[u8], out: &mut [u32]) -> Result<usize> {
+    let mut count = 0;
+    // SAFETY: pointers and lengths are of `run` and of `out`, which is lent alone; `count` is a local.
+    let answer = unsafe {
+        ffi::lefkanu_read_frames(
+            rule as u8,
+            run.as_ptr(),
+            run.len(),
+            out.as_mut_ptr(),
+            out.len(),
+            &mut count,
+        )
+    };
+    answered(answer, count)
+}
+
+pub(crate) fn read_record(log: &[u8], end: usize) -> Result<Option<[usize; 3]>> {
+    let mut record = [0; 3];
+    // SAFETY: pointer and length are of `log`; `record` is a local of three numbers.
+    let answer = unsafe { ffi::lefkanu_read_record(log.as_ptr(), log.len(), end, &mut record) };
+    found(answer, record)
+}
+
+pub(crate) fn append(
+    buffer: &mut [u8],
+    used: usize,
+    kind: RecordKind,
+    payload: &[u8],
+) -> Result<usize> {
+    let mut new_used = 0;
+    // SAFETY: pointers and lengths are of `payload` and of `buffer`, which is lent alone; `new_used` is a local.
+    let answer = unsafe {
+        ffi::lefkanu_append(
+            buffer.as_mut_ptr(),
+            buffer.len(),
+            used,
+            kind as u8,
+            payload.as_ptr(),
+            payload.len(),
+            &mut new_used,
+        )
+    };
+    answered(answer, new_used)
+}

@@ -1,0 +1,501 @@
+//! The C functions themselves: what they answer, that a refusal writes nothing, and that beside a result nothing is
+//! written.
+
+use crate::ffi::*;
+
+const ANNEX_G: u8 = 0;
+const HOUSE: u8 = 1;
+
+// What lent memory is filled with.
+const OCTET: u8 = 0xA5;
+const WORD: u32 = 0xA5A5_A5A5;
+const NUMBER: usize = 0xA5A5_A5A5_A5A5_A5A5;
+
+const TOKEN: [u8; 8] = [0x55, 0xFF, 0x00, 0x10, 0x05, 0x00, 0x00, 0x8C];
+const ANSWER: [u8; 13] = [
+    0x55, 0xFF, 0x06, 0x05, 0x10, 0x00, 0x03, 0xDA, 0x01, 0x22, 0x30, 0x10, 0xBD,
+];
+const MAC: [u8; 6] = [0x66, 0x77, 0x88, 0x99, 0xAA, 0xBB];
+
+/// Some octets with one of them changed.
+fn changed<const N: usize>(mut octets: [u8; N], place: usize, octet: u8) -> [u8; N] {
+    octets[place] = octet;
+    octets
+}
+
+// SAFETY, here and below: pointers and lengths are of the same slice, and all that is written to are locals.
+
+fn decode(rule: u8, frame: &[u8]) -> (u8, [usize; 8]) {
+    let mut header = [NUMBER; 8];
+    let answer = unsafe { lefkanu_mstp_decode(rule, frame.as_ptr(), frame.len(), &mut header) };
+    (answer, header)
+}
+
+/// Lends the middle of a buffer, and gives the whole.
+fn encode(rule: u8, frame_type: u8, data: &[u8], room: usize) -> (u8, Vec<u8>, usize) {
+    let mut buffer = vec![OCTET; room + 32];
+    let out = &mut buffer[16..16 + room];
+    let mut count = NUMBER;
+    let answer = unsafe {
+        lefkanu_mstp_encode(
+            rule,
+            frame_type,
+            16,
+            5,
+            data.as_ptr(),
+            data.len(),
+            out.as_mut_ptr(),
+            out.len(),
+            &mut count,
+        )
+    };
+    (answer, buffer, count)
+}
+
+fn patterns(frame: &[u8], room: usize) -> (u8, Vec<u32>, usize) {
+    let mut buffer = vec![WORD; room + 8];
+    let out = &mut buffer[4..4 + room];
+    let mut count = NUMBER;
+    let answer = unsafe {
+        lefkanu_detect_patterns(
+            frame.as_ptr(),
+            frame.len(),
+            out.as_mut_ptr(),
+            out.len(),
+            &mut count,
+        )
+    };
+    (answer, buffer, count)
+}
+
+fn read(rule: u8, run: &[u8], room: usize) -> (u8, Vec<u32>, usize) {
+    let mut buffer = vec![WORD; room + 8];
+    let out = &mut buffer[4..4 + room];
+    let mut count = NUMBER;
+    let answer = unsafe {
+        lefkanu_read_frames(
+            rule,
+            run.as_ptr(),
+            run.len(),
+            out.as_mut_ptr(),
+            out.len(),
+            &mut count,
+        )
+    };
+    (answer, buffer, count)
+}
+
+fn append(used: usize, kind: u8, payload: &[u8], room: usize) -> (u8, Vec<u8>, usize) {
+    let mut whole = vec![OCTET; room + 32];
+    let buffer = &mut whole[16..16 + room];
+    let mut new_used = NUMBER;
+    let answer = unsafe {
+        lefkanu_append(
+            buffer.as_mut_ptr(),
+            buffer.len(),
+            used,
+            kind,
+            payload.as_ptr(),
+            payload.len(),
+            &mut new_used,
+        )
+    };
+    (answer, whole, new_used)
+}
+
+#[test]
+fn checks() {
+    for rule in 0..=0xFF {
+        let (mut header_crc, mut data_crc) = (OCTET, 0xA5A5);
+        let header = [0x00, 0x10, 0x05, 0x00, 0x00];
+        let data = [0x01, 0x22, 0x30];
+        let header_answer = unsafe { lefkanu_calculate_header_crc(rule, &header, &mut header_crc) };
+        let data_answer =
+            unsafe { lefkanu_crc16_mstp(rule, data.as_ptr(), data.len(), &mut data_crc) };
+        let (answer, expected) = match rule {
+            ANNEX_G => (0, (0x8C, 0xBD10)),
+            HOUSE => (0, (0x9A, 0x4BC7)),
+            _ => (NO_CASE, (OCTET, 0xA5A5)),
+        };
+        assert_eq!((header_answer, data_answer), (answer, answer));
+        assert_eq!((header_crc, data_crc), expected);
+    }
+}
+
+#[test]
+fn mstp_decode() {
+    assert_eq!(decode(ANNEX_G, &TOKEN), (0, [0, 16, 5, 0x8C, 0, 0, 8, 0]));
+    assert_eq!(
+        decode(ANNEX_G, &ANSWER),
+        (0, [6, 5, 16, 0xDA, 1, 0xBD10, 8, 3])
+    );
+    for (answer, rule, frame) in [
+        (1, ANNEX_G, &TOKEN[..7]),
+        (1, ANNEX_G, &[]),
+        (2, ANNEX_G, &changed(TOKEN, 0, 0x54)),
+        (3, ANNEX_G, &changed(TOKEN, 2, 0x08)),
+        (4, ANNEX_G, &changed(TOKEN, 3, 0x11)),
+        (4, HOUSE, &TOKEN),
+        (5, ANNEX_G, &ANSWER[..12]),
+        (6, ANNEX_G, &changed(ANSWER, 8, 0x02)),
+        (NO_CASE, 2, &TOKEN),
+        (NO_CASE, 0xFF, &[]),
+    ] {
+        assert_eq!(decode(rule, frame), (answer, [NUMBER; 8]));
+    }
+}
+
+#[test]
+fn mstp_encode() {
+    let mut expected = vec![OCTET; 42];
+    expected[16..24].copy_from_slice(&TOKEN);
+    assert_eq!(encode(ANNEX_G, 0, &[], 10), (0, expected, 8));
+    for (answer, rule, frame_type, data, room) in [
+        (7, ANNEX_G, 0, 502, 600),
+        (7, HOUSE, 7, 502, 0),
+        (8, ANNEX_G, 0, 0, 7),
+        (8, HOUSE, 0, 3, 12),
+        (8, ANNEX_G, 0, 0, 0),
+        (NO_CASE, 2, 0, 0, 10),
+        (NO_CASE, ANNEX_G, 8, 0, 10),
+        (NO_CASE, ANNEX_G, 0xFF, 502, 0),
+    ] {
+        let expected = (answer, vec![OCTET; room + 32], NUMBER);
+        assert_eq!(encode(rule, frame_type, &vec![1; data], room), expected);
+    }
+}
+
+#[test]
+fn bvlc_decode() {
+    for (answer, message, expected) in [
+        (0, &[0x81, 0x0C, 0x12, 0x34, 0xFF][..], [0x0C, 0x1234]),
+        (11, &[0x81, 0x0B, 0x00], [NUMBER; 2]),
+        (12, &[0x80, 0x0B, 0x00, 0x04], [NUMBER; 2]),
+        (13, &[0x81, 0x0D, 0x00, 0x04], [NUMBER; 2]),
+    ] {
+        let mut header = [NUMBER; 2];
+        let answered = unsafe { lefkanu_bvlc_decode(message.as_ptr(), message.len(), &mut header) };
+        assert_eq!((answered, header), (answer, expected));
+    }
+}
+
+#[test]
+fn bvlc_encode() {
+    for (answer, function, room) in [
+        (0, 0x0A, 6),
+        (16, 0x0A, 3),
+        (16, 0x00, 0),
+        (NO_CASE, 0x0D, 6),
+    ] {
+        let mut buffer = vec![OCTET; room + 32];
+        let out = &mut buffer[16..16 + room];
+        let mut count = NUMBER;
+        let answered = unsafe {
+            lefkanu_bvlc_encode(function, 0x1234, out.as_mut_ptr(), out.len(), &mut count)
+        };
+        let mut expected = vec![OCTET; room + 32];
+        if answer == 0 {
+            expected[16..20].copy_from_slice(&[0x81, function, 0x12, 0x34]);
+        }
+        assert_eq!(answered, answer);
+        assert_eq!(buffer, expected);
+        assert_eq!(count, if answer == 0 { 4 } else { NUMBER });
+    }
+}
+
+#[test]
+fn process_bvlc_message() {
+    for (answer, message, expected) in [
+        (0, &[0x81, 0x0B, 0x00, 0x06, 0x01, 0x20][..], [NPDU, 4, 2]),
+        (
+            0,
+            &[0x81, 0x05, 0x00, 0x06, 0x01, 0x2C],
+            [TIME_TO_LIVE, 300, 0],
+        ),
+        (0, &[0x81, 0x09, 0x00, 0x05, 0x01], [NO_NPDU, 0, 0]),
+        (11, &[], [NUMBER; 3]),
+        (12, &[0x82, 0x0B, 0x00, 0x05, 0x01], [NUMBER; 3]),
+        (13, &[0x81, 0x0D, 0x00, 0x04], [NUMBER; 3]),
+        (14, &[0x81, 0x0B, 0x00, 0x06, 0x01], [NUMBER; 3]),
+        (15, &[0x81, 0x0B, 0x00, 0x04], [NUMBER; 3]),
+    ] {
+        let mut carried = [NUMBER; 3];
+        let answered =
+            unsafe { lefkanu_process_bvlc_message(message.as_ptr(), message.len(), &mut carried) };
+        assert_eq!((answered, carried), (answer, expected));
+    }
+}
+
+#[test]
+fn ethernet_decode() {
+    let frame = [&MAC[..], &[0x11; 6], &[0x82, 0xDC, 0x82, 0x82, 0x03, 0x01]].concat();
+    let other_type = [&frame[..12], &[0x00, 0x04, 0x82, 0x82, 0x03]].concat();
+    let other_llc = [&frame[..12], &[0x82, 0xDC, 0x82, 0x82, 0xE3]].concat();
+    let untouched = ([OCTET; 6], [OCTET; 6], [NUMBER; 2]);
+    for (answer, frame, expected) in [
+        (0, &frame[..], (MAC, [0x11; 6], [17, 1])),
+        (21, &frame[..16], untouched),
+        (22, &other_type, untouched),
+        (23, &other_llc, untouched),
+    ] {
+        let (mut dest_mac, mut src_mac, mut payload) = untouched;
+        let answered = unsafe {
+            lefkanu_ethernet_decode(
+                frame.as_ptr(),
+                frame.len(),
+                &mut dest_mac,
+                &mut src_mac,
+                &mut payload,
+            )
+        };
+        assert_eq!(answered, answer);
+        assert_eq!((dest_mac, src_mac, payload), expected);
+        let valid = unsafe { lefkanu_ethernet_validate(frame.as_ptr(), frame.len()) };
+        assert_eq!(valid, answer);
+    }
+}
+
+#[test]
+fn ethernet_encode() {
+    for (answer, payload, room) in [(0, 1, 62), (24, 1498, 1600), (25, 1, 59), (25, 0, 0)] {
+        let mut buffer = vec![OCTET; room + 32];
+        let out = &mut buffer[16..16 + room];
+        let payload = vec![0x41; payload];
+        let mut count = NUMBER;
+        let answered = unsafe {
+            lefkanu_ethernet_encode(
+                &MAC,
+                &[0x11; 6],
+                payload.as_ptr(),
+                payload.len(),
+                out.as_mut_ptr(),
+                out.len(),
+                &mut count,
+            )
+        };
+        let mut expected = vec![OCTET; room + 32];
+        if answer == 0 {
+            expected[16..76].fill(0);
+            expected[16..22].copy_from_slice(&MAC);
+            expected[22..28].fill(0x11);
+            expected[28..34].copy_from_slice(&[0x82, 0xDC, 0x82, 0x82, 0x03, 0x41]);
+        }
+        assert_eq!(answered, answer);
+        assert_eq!(buffer, expected);
+        assert_eq!(count, if answer == 0 { 60 } else { NUMBER });
+    }
+}
+
+#[test]
+fn validators() {
+    let mut valid = [0; RESULT_NUMBERS];
+    valid[..3].copy_from_slice(&[1, 3, 8]);
+    let mut mismatch = [0; RESULT_NUMBERS];
+    mismatch[..8].copy_from_slice(&[0, 3, 8, 1, 0, 4, 0x8C, 0x9A]);
+    for (rule, answer, expected) in [
+        (ANNEX_G, 0, valid),
+        (HOUSE, 0, mismatch),
+        (2, NO_CASE, [NUMBER; RESULT_NUMBERS]),
+    ] {
+        let mut result = [NUMBER; RESULT_NUMBERS];
+        let answered =
+            unsafe { lefkanu_validate_mstp_frame(rule, TOKEN.as_ptr(), TOKEN.len(), &mut result) };
+        assert_eq!((answered, result), (answer, expected));
+        let mut result = [NUMBER; RESULT_NUMBERS];
+        let answered =
+            unsafe { lefkanu_validate_frame(rule, TOKEN.as_ptr(), TOKEN.len(), &mut result) };
+        assert_eq!((answered, result), (answer, expected));
+    }
+}
+
+#[test]
+fn validators_without_a_rule() {
+    let mut ip = [NUMBER; RESULT_NUMBERS];
+    unsafe { lefkanu_validate_bacnet_ip_frame(TOKEN.as_ptr(), 3, &mut ip) };
+    let mut expected = [0; RESULT_NUMBERS];
+    expected[..8].copy_from_slice(&[0, 1, 3, 1, 0, 1, 3, 4]);
+    assert_eq!(ip, expected);
+    let mut ethernet = [NUMBER; RESULT_NUMBERS];
+    unsafe { lefkanu_validate_ethernet_frame(TOKEN.as_ptr(), 8, &mut ethernet) };
+    expected[..8].copy_from_slice(&[0, 2, 8, 1, 0, 1, 8, 17]);
+    assert_eq!(ethernet, expected);
+}
+
+#[test]
+fn statistics() {
+    for (answer, octets) in [(0, 65_535), (31, 65_536)] {
+        let frame = vec![0x80; octets];
+        let (mut byte_distribution, mut counts) = ([WORD; 256], [NUMBER; 4]);
+        let answered = unsafe {
+            lefkanu_calculate_frame_statistics(
+                frame.as_ptr(),
+                frame.len(),
+                &mut byte_distribution,
+                &mut counts,
+            )
+        };
+        assert_eq!(answered, answer);
+        if answer == 0 {
+            let mut expected = [0; 256];
+            expected[0x80] = 65_535;
+            assert_eq!(byte_distribution, expected);
+            assert_eq!(counts, [0, 65_535, 0x80, 65_535]);
+        } else {
+            assert_eq!(byte_distribution, [WORD; 256]);
+            assert_eq!(counts, [NUMBER; 4]);
+        }
+    }
+}
+
+#[test]
+fn detect_patterns() {
+    let mut expected = vec![WORD; 18];
+    expected[4..12].copy_from_slice(&[1, 1, 4, 0x41, 2, 0, 5, 0]);
+    assert_eq!(patterns(&[0x41; 5], 10), (0, expected, 2));
+    for (answer, frame, room) in [
+        (31, vec![0; 65_536], 100),
+        (31, vec![0; 65_536], 0),
+        (32, vec![0x41; 4], 3),
+        (32, vec![0x41; 5], 7),
+        (32, vec![0x41; 4], 0),
+    ] {
+        let expected = (answer, vec![WORD; room + 8], NUMBER);
+        assert_eq!(patterns(&frame, room), expected);
+    }
+}
+
+#[test]
+fn analyze_frame() {
+    let mut findings = [0; RESULT_NUMBERS];
+    findings[..8].copy_from_slice(&[0, 0, 4, 1, 0, 7, 4, 0]);
+    for (answer, rule, octets, room) in [
+        (0, HOUSE, 4, 6),
+        (31, ANNEX_G, 65_536, 100),
+        (32, ANNEX_G, 4, 3),
+        (NO_CASE, 2, 4, 100),
+    ] {
+        let frame = vec![0x41; octets];
+        let mut result = [NUMBER; RESULT_NUMBERS];
+        let (mut byte_distribution, mut counts) = ([WORD; 256], [NUMBER; 4]);
+        let mut buffer = vec![WORD; room + 8];
+        let out = &mut buffer[4..4 + room];
+        let mut count = NUMBER;
+        let answered = unsafe {
+            lefkanu_analyze_frame(
+                rule,
+                frame.as_ptr(),
+                frame.len(),
+                &mut result,
+                &mut byte_distribution,
+                &mut counts,
+                out.as_mut_ptr(),
+                out.len(),
+                &mut count,
+            )
+        };
+        assert_eq!(answered, answer);
+        let mut expected = vec![WORD; room + 8];
+        if answer == 0 {
+            expected[4..8].copy_from_slice(&[2, 0, 4, 0]);
+            assert_eq!(result, findings);
+            assert_eq!(byte_distribution[0x41], 4);
+            assert_eq!(byte_distribution.iter().sum::<u32>(), 4);
+            assert_eq!((counts, count), ([0, 0, 0x41, 4], 1));
+        } else {
+            assert_eq!(result, [NUMBER; RESULT_NUMBERS]);
+            assert_eq!(byte_distribution, [WORD; 256]);
+            assert_eq!((counts, count), ([NUMBER; 4], NUMBER));
+        }
+        assert_eq!(buffer, expected);
+    }
+}
+
+#[test]
+fn find_frame() {
+    let long = [0x55; 65_536];
+    for (answer, rule, run, place, expected) in [
+        (0, ANNEX_G, &ANSWER[..], 0, [0, 13]),
+        (NONE, ANNEX_G, &ANSWER, 1, [NUMBER; 2]),
+        (NONE, HOUSE, &ANSWER, 0, [NUMBER; 2]),
+        (NONE, HOUSE, &[], 0, [NUMBER; 2]),
+        (31, ANNEX_G, &long, 0, [NUMBER; 2]),
+        (33, ANNEX_G, &ANSWER, 14, [NUMBER; 2]),
+        (NO_CASE, 2, &ANSWER, 0, [NUMBER; 2]),
+    ] {
+        let mut report = [NUMBER; 2];
+        let answered =
+            unsafe { lefkanu_find_frame(rule, run.as_ptr(), run.len(), place, &mut report) };
+        assert_eq!((answered, report), (answer, expected));
+    }
+}
+
+#[test]
+fn count_frames() {
+    let long = [0x55; 65_536];
+    for (answer, rule, run, expected) in [
+        (0, ANNEX_G, &TOKEN[..], 1),
+        (0, HOUSE, &TOKEN, 0),
+        (31, ANNEX_G, &long, NUMBER),
+        (NO_CASE, 2, &TOKEN, NUMBER),
+    ] {
+        let mut count = NUMBER;
+        let answered = unsafe { lefkanu_count_frames(rule, run.as_ptr(), run.len(), &mut count) };
+        assert_eq!((answered, count), (answer, expected));
+    }
+}
+
+#[test]
+fn read_frames() {
+    let run = [&TOKEN[..], &ANSWER].concat();
+    let mut expected = vec![WORD; 13];
+    expected[4..8].copy_from_slice(&[0, 8, 8, 13]);
+    assert_eq!(read(ANNEX_G, &run, 5), (0, expected, 2));
+    let long = [0x55; 65_536];
+    for (answer, rule, run, room) in [
+        (31, ANNEX_G, &long[..], 100),
+        (32, ANNEX_G, &run, 3),
+        (32, ANNEX_G, &run, 0),
+        (NO_CASE, 2, &run, 100),
+    ] {
+        let expected = (answer, vec![WORD; room + 8], NUMBER);
+        assert_eq!(read(rule, run, room), expected);
+    }
+}
+
+#[test]
+fn read_record() {
+    let log = [0x81, 0x06, 0x02, 0x00, 0x02];
+    for (answer, log, end, expected) in [
+        (0, &log[..], 5, [2, 0, 2]),
+        (NONE, &log, 0, [NUMBER; 3]),
+        (47, &log, 6, [NUMBER; 3]),
+        (41, &log, 2, [NUMBER; 3]),
+        (42, &log, 3, [NUMBER; 3]),
+        (42, &changed(log, 2, 4), 5, [NUMBER; 3]),
+        (43, &changed(log, 4, 0), 5, [NUMBER; 3]),
+        (44, &changed(log, 4, 3), 5, [NUMBER; 3]),
+    ] {
+        let mut record = [NUMBER; 3];
+        let answered = unsafe { lefkanu_read_record(log.as_ptr(), log.len(), end, &mut record) };
+        assert_eq!((answered, record), (answer, expected));
+    }
+}
+
+#[test]
+fn append_record() {
+    let mut expected = vec![OCTET; 42];
+    expected[19..24].copy_from_slice(&[0x81, 0x06, 0x02, 0x00, 0x02]);
+    assert_eq!(append(3, 2, &[0x81, 0x06], 10), (0, expected, 8));
+    for (answer, used, kind, payload, room) in [
+        (47, 11, 1, 1, 10),
+        (42, 0, 0, 1, 10),
+        (42, 0, 4, 1, 10),
+        (43, 0, 1, 0, 10),
+        (43, 0, 1, 1515, 2000),
+        (46, 7, 1, 1, 10),
+        (46, 0, 1, 1, 0),
+    ] {
+        let expected = (answer, vec![OCTET; room + 32], NUMBER);
+        assert_eq!(append(used, kind, &vec![1; payload], room), expected);
+    }
+}

@@ -1,0 +1,243 @@
+//! The smallest inputs of docs/DIFFERENCES.md.
+
+mod common;
+
+use common::{octets, with_zeros};
+use lefkanu::datalink::bip::{npdu, process_bvlc_message, BvlcFunction, BvlcHeader, BvlcMessage};
+use lefkanu::datalink::ethernet::{self, EthernetFrame};
+use lefkanu::datalink::mstp::{self, decode_header, MstpFrame, MstpFrameType};
+use lefkanu::datalink::validation::{
+    analyze_frame, calculate_frame_statistics, detect_patterns, validate_bacnet_ip_frame,
+    validate_mstp_frame, ConfigurationReason, Pattern, ValidationWarning,
+};
+use lefkanu::datalink::DataLinkError::{CrcError, InvalidFrame, Refused};
+use lefkanu::finder::{find_frame, Report};
+use lefkanu::CheckRule::{AnnexG, House};
+
+#[test]
+fn no_limit_of_501_in_reading() {
+    for (rule, header, check) in [
+        (AnnexG, "55 FF 00 00 00 01 F6 03", "FC 0A"),
+        (House, "55 FF 00 00 00 01 F6 DF", "BC E5"),
+    ] {
+        let frame = with_zeros(header, 502, check);
+        let (header, data) = decode_header(rule, &frame).unwrap();
+        assert_eq!((header.data_length, data), (502, &[0; 502][..]));
+    }
+}
+
+#[test]
+fn source_255() {
+    for (rule, frame) in [
+        (AnnexG, "55 FF 00 00 FF 00 00 EB"),
+        (House, "55 FF 00 00 FF 00 00 AD"),
+    ] {
+        let read = MstpFrame::decode(rule, &octets(frame)).unwrap();
+        assert_eq!(read.source, 255);
+        assert_eq!(read.encode(rule), Ok(octets(frame)));
+    }
+}
+
+#[test]
+fn the_pad_octet() {
+    let padded = octets("55 FF 00 10 05 00 00 8C FF");
+    assert_eq!(MstpFrame::decode(AnnexG, &padded), Err(InvalidFrame(5)));
+}
+
+#[test]
+fn function_09_yields_no_npdu() {
+    let message = octets("81 09 00 05 01");
+    assert_eq!(process_bvlc_message(&message), Ok(BvlcMessage::NoNpdu));
+}
+
+#[test]
+fn the_length_of_a_bvlc_header() {
+    let header = BvlcHeader::new(BvlcFunction::OriginalUnicastNpdu, 0);
+    assert_eq!(BvlcHeader::decode(&octets("81 0A 00 00")), Ok(header));
+    assert_eq!(npdu(&octets("81 0A 00 00")), Err(InvalidFrame(14)));
+}
+
+#[test]
+fn the_address_in_function_04() {
+    let message = octets("81 04 00 0B 11 22 33 44 55 66 01");
+    assert_eq!(npdu(&message), Ok(Some(&[0x01][..])));
+}
+
+#[test]
+fn ethernet_type_where_clause_7_has_a_length() {
+    let addresses = [0x11; 12];
+    let frame = [&addresses[..], &octets("82 DC 82 82 03")].concat();
+    assert_eq!(EthernetFrame::decode(&frame).unwrap().payload, []);
+    let clause_7 = [&addresses[..], &octets("00 03 82 82 03")].concat();
+    assert_eq!(EthernetFrame::decode(&clause_7), Err(InvalidFrame(22)));
+}
+
+#[test]
+fn padding_stays_in_the_payload() {
+    let octets = EthernetFrame::new([1; 6], [2; 6], vec![]).encode().unwrap();
+    assert_eq!(EthernetFrame::decode(&octets).unwrap().payload, [0; 43]);
+}
+
+#[test]
+fn no_largest_size_in_ethernet_reading() {
+    let mut frame = [&[0x11; 12][..], &octets("82 DC 82 82 03")].concat();
+    frame.resize(1515, 0);
+    assert_eq!(EthernetFrame::decode(&frame).unwrap().payload.len(), 1498);
+    assert_eq!(
+        ethernet::validate_ethernet_frame(&frame),
+        Err(InvalidFrame(24))
+    );
+}
+
+#[test]
+fn function_0d() {
+    let message = octets("81 0D 00 04");
+    let result = validate_bacnet_ip_frame(&message);
+    assert_eq!((result.is_valid, result.warnings), (true, vec![]));
+    assert_eq!(BvlcHeader::decode(&message), Err(InvalidFrame(13)));
+}
+
+#[test]
+fn types_of_128_or_more() {
+    let proprietary = ValidationWarning::NonStandardConfiguration {
+        reason: ConfigurationReason::ProprietaryType(128),
+    };
+    for (rule, frame) in [
+        (AnnexG, "55 FF 80 00 00 00 00 3F"),
+        (House, "55 FF 80 00 00 00 00 DD"),
+    ] {
+        let frame = octets(frame);
+        let result = validate_mstp_frame(rule, &frame);
+        assert!(result.is_valid);
+        assert_eq!(result.warnings, std::slice::from_ref(&proprietary));
+        assert_eq!(MstpFrame::decode(rule, &frame), Err(InvalidFrame(3)));
+        assert_eq!(find_frame(rule, &frame, 0), Ok(None));
+    }
+}
+
+#[test]
+fn a_master_that_sends_to_a_slave() {
+    let warning = ValidationWarning::NonStandardConfiguration {
+        reason: ConfigurationReason::MasterToSlave,
+    };
+    for (rule, frame) in [
+        (AnnexG, "55 FF 00 80 00 00 00 B6"),
+        (House, "55 FF 00 80 00 00 00 8B"),
+    ] {
+        let result = validate_mstp_frame(rule, &octets(frame));
+        assert!(result.is_valid);
+        assert_eq!(result.warnings, std::slice::from_ref(&warning));
+    }
+}
+
+#[test]
+fn a_changed_station_address_passes_the_house_rule() {
+    for (frame, destination, source) in [
+        ("55 FF 00 10 05 00 00 9A", 16, 5),
+        ("55 FF 00 10 AE 00 00 9A", 16, 174),
+        ("55 FF 00 BB 05 00 00 9A", 187, 5),
+    ] {
+        let frame = octets(frame);
+        let read = MstpFrame::decode(House, &frame).unwrap();
+        assert_eq!((read.destination, read.source), (destination, source));
+        assert_eq!(MstpFrame::decode(AnnexG, &frame), Err(CrcError(4)));
+    }
+    let other_type = octets("55 FF AB 10 05 00 00 9A");
+    assert_eq!(MstpFrame::decode(House, &other_type), Err(InvalidFrame(3)));
+    let result = validate_mstp_frame(House, &other_type);
+    let proprietary = ValidationWarning::NonStandardConfiguration {
+        reason: ConfigurationReason::ProprietaryType(0xAB),
+    };
+    assert_eq!(
+        (result.is_valid, result.warnings),
+        (true, vec![proprietary])
+    );
+    let other_length = octets("55 FF 00 10 05 00 AB 9A");
+    assert_eq!(
+        MstpFrame::decode(House, &other_length),
+        Err(InvalidFrame(5))
+    );
+}
+
+#[test]
+fn single_changed_octets_of_a_token() {
+    for (rule, token, passing) in [
+        (AnnexG, "55 FF 00 10 05 00 00 8C", vec![]),
+        (House, "55 FF 00 10 05 00 00 9A", vec![(3, 0xBB), (4, 0xAE)]),
+    ] {
+        let token = octets(token);
+        let mut passed = vec![];
+        for place in 0..token.len() {
+            for octet in 0..=0xFF {
+                let mut changed = token.clone();
+                changed[place] = octet;
+                if changed != token && MstpFrame::decode(rule, &changed).is_ok() {
+                    passed.push((place, octet));
+                }
+            }
+        }
+        assert_eq!(passed, passing);
+    }
+}
+
+#[test]
+fn want_of_room() {
+    let token = MstpFrameType::Token;
+    assert_eq!(
+        mstp::encode_into(AnnexG, token, 16, 5, &[], &mut [0; 7]),
+        Err(Refused(8))
+    );
+    let header = BvlcHeader::new(BvlcFunction::Result, 4);
+    assert_eq!(header.encode_into(&mut [0; 3]), Err(Refused(16)));
+    assert_eq!(
+        ethernet::encode_into(&[1; 6], &[2; 6], &[], &mut [0; 59]),
+        Err(Refused(25))
+    );
+}
+
+#[test]
+fn the_time_to_live_is_answered() {
+    let message = octets("81 05 00 06 00 3C");
+    assert_eq!(
+        process_bvlc_message(&message),
+        Ok(BvlcMessage::TimeToLive(60))
+    );
+}
+
+#[test]
+fn no_npdu_is_an_answer() {
+    let message = octets("81 00 00 04");
+    assert_eq!(process_bvlc_message(&message), Ok(BvlcMessage::NoNpdu));
+}
+
+#[test]
+fn messages_longer_than_1500_octets() {
+    let mut message = octets("81 0B 05 DD");
+    message.resize(1501, 0x01);
+    assert_eq!(npdu(&message), Ok(Some(&[0x01; 1497][..])));
+}
+
+#[test]
+fn at_most_65_535_octets() {
+    let long = [0; 65_536];
+    assert_eq!(calculate_frame_statistics(&long), Err(Refused(31)));
+    assert_eq!(detect_patterns(&long), Err(Refused(31)));
+    assert_eq!(analyze_frame(AnnexG, &long), Err(Refused(31)));
+}
+
+#[test]
+fn texts_without_their_octets() {
+    let text = Pattern::AsciiText {
+        start: 0,
+        length: 4,
+    };
+    assert_eq!(text.text(&[0x41; 4]), Some("AAAA"));
+    assert_eq!(detect_patterns(&[0x41; 4]), Ok(vec![text]));
+}
+
+#[test]
+fn the_finder() {
+    let token = octets("55 FF 00 10 05 00 00 8C");
+    let report = Report { place: 0, count: 8 };
+    assert_eq!(find_frame(AnnexG, &token, 0), Ok(Some(report)));
+}
