@@ -1,7 +1,7 @@
 // A finder in Rust, over the Rust's own MS/TP validator.
 
 use crate::datalink::validation::validate_mstp_frame;
-use crate::Report;
+use crate::readings::Report;
 
 // The first acceptable frame from a place on.
 pub fn find(run: &[u8], place: usize) -> Option<Report> {

@@ -113,7 +113,7 @@ pub fn frame(rule: Rule, octets: &[u8]) -> Findings {
 }
 
 // What is found in an MS/TP frame.
-fn mstp(rule: Rule, octets: &[u8]) -> Findings {
+pub fn mstp(rule: Rule, octets: &[u8]) -> Findings {
     let size = octets.len();
     if size < 8 {
         return alone(Link::Mstp, octets, [1, size, 8]);
@@ -163,7 +163,7 @@ fn check_error(received: usize, calculated: usize) -> Option<Entry> {
 }
 
 // What is found in an IP frame.
-fn ip(octets: &[u8]) -> Findings {
+pub fn ip(octets: &[u8]) -> Findings {
     let size = octets.len();
     if size < 4 {
         return alone(Link::Ip, octets, [1, size, 4]);
@@ -184,7 +184,7 @@ fn ip(octets: &[u8]) -> Findings {
 }
 
 // What is found in an Ethernet frame.
-fn ethernet(octets: &[u8]) -> Findings {
+pub fn ethernet(octets: &[u8]) -> Findings {
     let size = octets.len();
     if size < 17 {
         return alone(Link::Ethernet, octets, [1, size, 17]);

@@ -102,8 +102,17 @@ fn texts(octets: &[u8]) -> Vec<Entry> {
 
 // Panics unless the Rust found the same.
 pub fn compare(octets: &[u8], rust: &[Pattern]) {
-    let told: Vec<Entry> = rust.iter().map(|pattern| entry(octets, pattern)).collect();
-    assert_eq!(told, found(octets), "patterns in {}", hex(octets));
+    assert_eq!(
+        told(octets, rust),
+        found(octets),
+        "patterns in {}",
+        hex(octets)
+    );
+}
+
+// The Rust's patterns.
+pub fn told(octets: &[u8], rust: &[Pattern]) -> Vec<Entry> {
+    rust.iter().map(|pattern| entry(octets, pattern)).collect()
 }
 
 // A pattern of the Rust. A text must be what the octets have there.

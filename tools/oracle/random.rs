@@ -8,6 +8,11 @@ impl Random {
         Random(0x9E37_79B9_7F4A_7C15)
     }
 
+    // The generator at a start of its own for each seed.
+    pub fn seeded(seed: u64) -> Random {
+        Random(seed.wrapping_mul(0x9E37_79B9_7F4A_7C15) | 1)
+    }
+
     // A number below `n`.
     pub fn below(&mut self, n: usize) -> usize {
         self.0 ^= self.0 << 13;

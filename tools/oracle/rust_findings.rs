@@ -34,7 +34,7 @@ fn unchecked(findings: &Findings) -> Vec<Entry> {
 }
 
 // The Rust's result.
-fn told(result: ValidationResult) -> Findings {
+pub fn told(result: ValidationResult) -> Findings {
     Findings {
         valid: result.is_valid,
         link: link(result.link_type),

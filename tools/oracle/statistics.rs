@@ -13,10 +13,10 @@ pub const MOST: usize = 65_535;
 // run's octet and length.
 #[derive(Debug, PartialEq)]
 pub struct Statistics {
-    counts: Vec<usize>,
-    zeros: usize,
-    high: usize,
-    longest: (u8, usize),
+    pub counts: Vec<usize>,
+    pub zeros: usize,
+    pub high: usize,
+    pub longest: (u8, usize),
 }
 
 impl Statistics {
@@ -63,11 +63,15 @@ pub fn answer(octets: &[u8]) -> String {
 
 // Panics unless the Rust counted the same.
 pub fn compare(octets: &[u8], rust: FrameStatistics, statistics: &Statistics) {
-    let told = Statistics {
+    assert_eq!(told(rust), *statistics, "counting {}", hex(octets));
+}
+
+// The Rust's statistics.
+pub fn told(rust: FrameStatistics) -> Statistics {
+    Statistics {
         counts: rust.byte_distribution.map(|count| count as usize).to_vec(),
         zeros: rust.null_bytes,
         high: rust.high_bytes,
         longest: rust.longest_run,
-    };
-    assert_eq!(told, *statistics, "counting {}", hex(octets));
+    }
 }

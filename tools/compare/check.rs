@@ -1,0 +1,106 @@
+// The check octets under document 01's two rules, by division of polynomials over single bits: the
+// octets' bits, least significant first, over a generator. No register is shifted.
+
+use crate::ffi::NO_CASE;
+
+#[derive(Clone, Copy, Debug, PartialEq)]
+pub enum Rule {
+    AnnexG,
+    House,
+}
+
+// A generator: its degree, and the exponents of its other terms.
+struct Generator {
+    degree: usize,
+    terms: &'static [usize],
+}
+
+// x^8 + x^7 + 1, x^16 + x^12 + x^5 + 1.
+const ANNEX_G: [Generator; 2] = [
+    Generator {
+        degree: 8,
+        terms: &[7, 0],
+    },
+    Generator {
+        degree: 16,
+        terms: &[12, 5, 0],
+    },
+];
+
+// x^8 + x^7 + x^5 + x^3 + x, x^16 + x^15 + x^2 + 1.
+const HOUSE: [Generator; 2] = [
+    Generator {
+        degree: 8,
+        terms: &[7, 5, 3, 1],
+    },
+    Generator {
+        degree: 16,
+        terms: &[15, 2, 0],
+    },
+];
+
+impl Rule {
+    pub const ALL: [Rule; 2] = [Rule::AnnexG, Rule::House];
+
+    // The rule that a number names.
+    pub fn of(number: u8) -> Result<Rule, u8> {
+        let mut rules = Rule::ALL.into_iter();
+        rules.find(|rule| *rule as u8 == number).ok_or(NO_CASE)
+    }
+
+    // The header check of five octets.
+    pub fn header_check(self, five: [u8; 5]) -> u8 {
+        self.generators()[0].check(&five) as u8
+    }
+
+    // The data check of any octets, as a number.
+    pub fn data_check(self, data: &[u8]) -> u16 {
+        self.generators()[1].check(data)
+    }
+
+    // The generators of header check and data check.
+    fn generators(self) -> &'static [Generator; 2] {
+        match self {
+            Rule::AnnexG => &ANNEX_G,
+            Rule::House => &HOUSE,
+        }
+    }
+}
+
+impl Generator {
+    // The remainder's complement, its highest term as the lowest bit. That all bits are one at the
+    // start means that the dividend's first bits are turned.
+    fn check(&self, octets: &[u8]) -> u16 {
+        let count = 8 * octets.len();
+        let mut bits = vec![false; count + self.degree];
+        for (place, bit) in bits[..count].iter_mut().enumerate() {
+            *bit = octets[place / 8] >> (place % 8) & 1 == 1;
+        }
+        for bit in &mut bits[..self.degree] {
+            *bit = !*bit;
+        }
+        for place in 0..count {
+            if bits[place] {
+                for term in self.terms {
+                    bits[place + self.degree - term] ^= true;
+                }
+            }
+        }
+        let lower = |number: u16, bit: &bool| 2 * number + u16::from(!bit);
+        bits[count..].iter().rev().fold(0, lower)
+    }
+}
+
+// Panics unless document 01's trials a to d come out; a and c are Annex G's worked examples.
+pub fn try_examples() {
+    let header = [0x00, 0x10, 0x05, 0x00, 0x00];
+    let data = [0x01, 0x22, 0x30];
+    assert_eq!(Rule::AnnexG.header_check(header), 0x8C, "trial (a)");
+    assert_eq!(Rule::House.header_check(header), 0x9A, "trial (b)");
+    let sent = |rule: Rule| rule.data_check(&data).to_le_bytes();
+    assert_eq!(sent(Rule::AnnexG), [0x10, 0xBD], "trial (c)");
+    assert_eq!(sent(Rule::House), [0xC7, 0x4B], "trial (d)");
+    for rule in Rule::ALL {
+        assert_eq!(rule.data_check(&[]), 0, "the check of no octets");
+    }
+}
