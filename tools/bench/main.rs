@@ -1,114 +1,118 @@
-// Measures whole readings of runs by two finders, under the house rule, and prints tables in markdown:
-// the one of the static library, and one in Rust over the Rust's own validator. Both run in this
-// program on the same octets, turn by turn, and must give the same reports.
+// Measures every function of the static library, under the house rule, against the Rust's, and prints
+// tables in markdown. Both sides run in this program on the same octets, through function pointers, so
+// that neither becomes part of the loop around it. Before a row is measured, both must answer the
+// same. Memory that is lent to the library is the same from call to call and isn't cleared; the lists
+// that the Rust makes, and their giving back, are part of its cost.
+//
+// Called with `functions`, it prints the rows of those named behind it alone; with `calls`, it makes
+// some calls of each row instead, or of those named behind it.
 
-mod inputs;
-mod rattle;
+mod analysis;
+mod bvlc;
+mod checks;
+mod ethernet;
+mod frames;
+mod logs;
+mod measure;
+mod mstp;
+mod random;
+mod readings;
+mod row;
+mod runs;
 mod rust_finder;
+mod rust_findings;
+mod tables;
+mod validators;
+
+#[path = "../../bindings/rust/src/ffi.rs"]
+mod ffi;
 
 // The Rust's own modules, and the stand-in for one that isn't among its files.
 mod datalink;
 mod encoding;
 mod util;
 
-use std::hint::black_box;
-use std::time::Instant;
+use row::{Calls, Row};
 
-// How often each reading is measured.
-const REPEATS: usize = 41;
+// The rules' numbers.
+pub const ANNEX_G: u8 = 0;
+pub const HOUSE: u8 = 1;
 
-// How many octets runs have.
-const LENGTHS: [usize; 4] = [8_192, 16_384, 32_768, 65_535];
+// How many calls callgrind counts.
+const CALLS: usize = 10;
 
-// A report: place and octet count.
-pub type Report = (usize, usize);
+// Makes some rows.
+const ROWS: [fn() -> Vec<Row>; 8] = [
+    checks::rows,
+    mstp::rows,
+    bvlc::rows,
+    ethernet::rows,
+    validators::rows,
+    analysis::rows,
+    readings::rows,
+    logs::rows,
+];
 
-// Finds the first acceptable frame of a run from a place on.
-type Finder = fn(&[u8], usize) -> Option<Report>;
-
-// The reports of a whole reading.
-fn reading(find: Finder, run: &[u8]) -> Vec<Report> {
-    let mut reports = Vec::new();
-    let mut place = 0;
-    while let Some((start, count)) = find(run, place) {
-        reports.push((start, count));
-        place = start + count;
-    }
-    reports
+fn rows() -> Vec<Row> {
+    ROWS.iter().flat_map(|rows| rows()).collect()
 }
 
-// The nanoseconds of some measurements: the middle one, and the quarters below and above it.
-struct Times {
-    median: f64,
-    low: f64,
-    high: f64,
+fn print_tables() {
+    print_machine();
+    tables::functions(&rows());
+    tables::readings();
 }
 
-impl Times {
-    fn of(mut nanoseconds: Vec<f64>) -> Times {
-        nanoseconds.sort_by(f64::total_cmp);
-        let at = |part: usize| nanoseconds[(nanoseconds.len() - 1) * part / 4];
-        Times {
-            median: at(2),
-            low: at(1),
-            high: at(3),
-        }
-    }
-
-    // In milliseconds, with the middle half of the measurements.
-    fn told(&self) -> String {
-        let [median, low, high] = [self.median, self.low, self.high].map(|time| time / 1e6);
-        format!("{median:.3} ({low:.3} to {high:.3})")
-    }
+// Only the rows of some functions.
+fn print_functions(names: &[&str]) {
+    let mut rows = rows();
+    rows.retain(|row| names.contains(&row.name));
+    print_machine();
+    tables::functions(&rows);
 }
 
-// The nanoseconds that a reading takes.
-fn time(find: Finder, run: &[u8]) -> f64 {
-    let start = Instant::now();
-    black_box(reading(find, black_box(run)));
-    start.elapsed().as_nanos() as f64
-}
-
-// Measures both finders on a run, in turns, after a first reading each: they, and the whole reading
-// of the static library, must give the same reports.
-fn compare(run: &[u8]) -> (usize, Times, Times) {
-    let found = reading(rust_finder::find, run);
-    assert_eq!(found, reading(rattle::find, run), "the finders differ");
-    assert_eq!(found, rattle::read(run, rattle::count(run)), "read");
-    let pairs = (0..REPEATS).map(|_| (time(rattle::find, run), time(rust_finder::find, run)));
-    let (ours, theirs) = pairs.unzip();
-    (found.len(), Times::of(ours), Times::of(theirs))
-}
-
-// Prints both tables.
-fn main() {
+fn print_machine() {
     let cores = std::thread::available_parallelism().map_or(1, |count| count.get());
     println!(
-        "A machine of kind {} with {cores} cores; house rule; {REPEATS} readings each.\n",
-        std::env::consts::ARCH
+        "A machine of kind {} with {cores} cores; house rule; {} samples each.\n",
+        std::env::consts::ARCH,
+        measure::SAMPLES
     );
-    let mut growth = Vec::new();
-    println!("| 65,535 octets | reports | Lefkanu, ms | Rust, ms | ratio |");
-    println!("|---|---|---|---|---|");
-    for (name, make) in inputs::KINDS {
-        let mut line = format!("| {name} |");
-        for length in LENGTHS {
-            let (reports, ours, theirs) = compare(&make(length));
-            let octets = length as f64;
-            let (each, other) = (ours.median / octets, theirs.median / octets);
-            line += &format!(" {each:.2} / {other:.2} |");
-            if length == 65_535 {
-                let ratio = ours.median / theirs.median;
-                println!(
-                    "| {name} | {reports} | {} | {} | {ratio:.2} |",
-                    ours.told(),
-                    theirs.told()
-                );
-            }
+}
+
+// So many calls of a side: what callgrind counts.
+#[no_mangle]
+#[inline(never)]
+pub extern "C" fn counted_calls(calls: &Calls) {
+    calls(CALLS);
+}
+
+// Makes the calls of all rows, or of those of a function, or of one, and tells which.
+fn call(function: Option<&str>, octets: Option<usize>) {
+    for row in rows() {
+        let wanted = function.is_none_or(|function| function == row.name)
+            && octets.is_none_or(|octets| octets == row.octets);
+        if !wanted {
+            continue;
         }
-        growth.push(line);
+        counted_calls(&row.ours);
+        println!("{}\t{}\t{CALLS}\tlefkanu", row.name, row.octets);
+        if let Some(theirs) = &row.theirs {
+            counted_calls(theirs);
+            println!("{}\t{}\t{CALLS}\trust", row.name, row.octets);
+        }
     }
-    let lengths = LENGTHS.map(|length| format!(" {length} octets |")).concat();
-    println!("\n| ns for each octet, Lefkanu / Rust |{lengths}");
-    println!("|---|---|---|---|---|\n{}", growth.join("\n"));
+}
+
+fn main() {
+    let arguments: Vec<String> = std::env::args().skip(1).collect();
+    let words: Vec<&str> = arguments.iter().map(String::as_str).collect();
+    match words[..] {
+        [] => print_tables(),
+        ["functions", ref names @ ..] => print_functions(names),
+        ["calls"] => call(None, None),
+        ["calls", function] => call(Some(function), None),
+        ["calls", function, octets] => call(Some(function), octets.parse().ok()),
+        _ => panic!("usage: driver [functions NAME... | calls [FUNCTION [OCTETS]]]"),
+    }
 }

@@ -1,6 +1,7 @@
-// The runs that are measured, each kind by its name and the function that makes one.
+// The runs of bus octets that are measured, each kind by its name and the function that makes one.
 
 use crate::datalink::mstp::{MstpFrame, MstpFrameType};
+use crate::random::Random;
 
 // Makes a run of so many octets.
 type Make = fn(usize) -> Vec<u8>;
@@ -20,28 +21,6 @@ pub const KINDS: [(&str, Make); 7] = [
     ("frames of 501 data octets one behind another", long_frames),
     ("frames among sparks", mixed),
 ];
-
-// Octets that look random and are the same in every run: xorshift on 64 bits, from a fixed seed.
-struct Random(u64);
-
-impl Random {
-    fn new() -> Random {
-        Random(0x9E37_79B9_7F4A_7C15)
-    }
-
-    // A number below `n`.
-    fn below(&mut self, n: usize) -> usize {
-        self.0 ^= self.0 << 13;
-        self.0 ^= self.0 >> 7;
-        self.0 ^= self.0 << 17;
-        (self.0 >> 32) as usize % n
-    }
-
-    // So many octets without FF, so that none of them begins a head.
-    fn octets(&mut self, count: usize) -> Vec<u8> {
-        (0..count).map(|_| self.below(255) as u8).collect()
-    }
-}
 
 // A frame as the Rust writes it.
 fn frame(destination: u8, source: u8, data: Vec<u8>) -> Vec<u8> {

@@ -1,0 +1,81 @@
+// The frames and messages that are measured. They are never given back, so that every call of a row
+// may borrow them.
+
+use crate::datalink::ethernet::{BACNET_ETHERNET_HEADER_SIZE, BACNET_LLC_HEADER};
+use crate::datalink::mstp::opened_header_crc;
+use crate::random::Random;
+use crate::util::crc16_mstp;
+
+pub type Octets = &'static [u8];
+
+// The addresses in Ethernet frames.
+pub const MACS: [[u8; 6]; 2] = [[0xFF; 6], [0x00, 0x11, 0x22, 0x33, 0x44, 0x55]];
+
+// Random octets.
+pub fn octets(count: usize) -> Octets {
+    Random::new().octets(count).leak()
+}
+
+// The octets with another one at each of some places.
+pub fn with(octets: Octets, changes: &[(usize, u8)]) -> Octets {
+    let mut changed = octets.to_vec();
+    for (place, octet) in changes {
+        changed[*place] = *octet;
+    }
+    changed.leak()
+}
+
+// The octets with the last one changed.
+pub fn broken(octets: Octets) -> Octets {
+    let last = octets.len() - 1;
+    with(octets, &[(last, octets[last] ^ 0x10)])
+}
+
+// An MS/TP frame of so many octets, 8 or more than 10, under the house rule. Above 511 none is
+// written, but the reader takes them.
+pub fn mstp(size: usize) -> Octets {
+    let data = octets(size.saturating_sub(10));
+    let [high, low] = (data.len() as u16).to_be_bytes();
+    let header = [if data.is_empty() { 0 } else { 6 }, 16, 5, high, low];
+    let mut frame = vec![0x55, 0xFF];
+    frame.extend(header);
+    frame.push(opened_header_crc(&header));
+    if !data.is_empty() {
+        frame.extend(data);
+        frame.extend(crc16_mstp(data).to_le_bytes());
+    }
+    frame.leak()
+}
+
+// An MS/TP frame of so many octets whose type, source and checks are wrong.
+pub fn bad_mstp(size: usize) -> Octets {
+    let frame = broken(mstp(size));
+    with(frame, &[(2, 0x20), (4, 0xFF), (7, frame[7] ^ 0x01)])
+}
+
+// A BVLC message of so many octets that carries an NPDU.
+pub fn bvlc(size: usize) -> Octets {
+    let [high, low] = (size as u16).to_be_bytes();
+    let header = [(0, 0x81), (1, 0x0A), (2, high), (3, low)];
+    with(octets(size), &header)
+}
+
+// A BVLC message of so many octets whose type, function and length are wrong.
+pub fn bad_bvlc(size: usize) -> Octets {
+    let message = broken(bvlc(size));
+    with(message, &[(0, 0x82), (1, 0x20), (3, message[3] ^ 0x10)])
+}
+
+// An Ethernet frame of so many octets, 17 or more.
+pub fn ethernet(size: usize) -> Octets {
+    let mut frame = MACS.concat();
+    frame.extend([0x82, 0xDC]);
+    frame.extend(BACNET_LLC_HEADER);
+    frame.extend(octets(size - BACNET_ETHERNET_HEADER_SIZE));
+    frame.leak()
+}
+
+// An Ethernet frame of so many octets with another type and LLC header, to a multicast address.
+pub fn bad_ethernet(size: usize) -> Octets {
+    with(ethernet(size), &[(0, 0x01), (12, 0x08), (14, 0xAA)])
+}
