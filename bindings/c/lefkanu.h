@@ -5,8 +5,8 @@
    exactly so many.
 
    Answers: 0 where there is a result, and then it stands in the lent memory. Else the number of the first of document
-   01's questions that fails, LEFKANU_NONE, or LEFKANU_NO_CASE where a number names no rule, type or function; then
-   nothing was written.
+   01's questions that fails, LEFKANU_NONE, or, before any question is asked, LEFKANU_NO_CASE where a number names no rule,
+   type or function; then nothing was written.
 
    Rules: LEFKANU_ANNEX_G or LEFKANU_HOUSE, whose octets are those of bacnet-rs. */
 #ifndef LEFKANU_H
@@ -41,7 +41,7 @@ uint8_t lefkanu_crc16_mstp(uint8_t rule, const uint8_t *data, size_t data_octets
 /* MS/TP frames. */
 
 /* Reads a frame. header: type, destination, source, header check, 1 if there is a data check else 0, data check or 0,
-   place of the data in the frame, how many data octets. Questions 1 to 6. */
+   place of the data in the frame, how many data octets (8 and 0 where there are none). Questions 1 to 6. */
 uint8_t lefkanu_mstp_decode(uint8_t rule, const uint8_t *frame, size_t frame_octets, size_t header[8]);
 
 /* Writes a frame at the front of out, whose rest stays; count: how many octets it has. Questions 7 and 8. */
