@@ -8,7 +8,7 @@ use Rattle.crc.specs.declared.CheckRule.{CheckRule}
 use Rattle.findings.specs.Result.{noResult}
 use Rattle.validation.specs.Frame.{frameResult}
 use Rattle.statistics.specs.Statistics.{frameStatistics, noStatistics}
-use Rattle.patterns.specs.declared.PatternsDetected.the-variants.{Count, Refused}
+use Rattle.octets.specs.declared.CountResult.the-variants.{Count, Refused}
 use Rattle.patterns.specs.Entries.{entries}
 use Rattle.patterns.specs.Detect.{patternsQuestion}
 use Rattle.analysis.specs.declared.FrameAnalysis.{FrameAnalysis}

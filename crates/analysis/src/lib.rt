@@ -1,29 +1,18 @@
 // The analysis of a frame: `analyze_frame` of validation.rs.
 use crc::CheckRule;
 use findings::ValidationResult;
-use patterns::PatternsDetected;
+use octets::CountResult;
 use statistics::FrameStatistics;
 ghost use mathlib.Core.Path.{_≡_};
 ghost use Rattle.patterns.specs.Detect.{patternsOutput};
-ghost use Rattle.analysis.specs.Analysis.{refused, analysis};
+ghost use Rattle.analysis.specs.Analysis.{analysis};
 
 // What the analysis answers: the count of entries in the lent list or the question that failed, the validation and the
 // statistics. Where it refuses, the two are zeros.
 pub struct FrameAnalysis {
-    pub patterns: PatternsDetected,
+    pub patterns: CountResult,
     pub validation: ValidationResult,
     pub statistics: FrameStatistics,
-}
-
-// An analysis that refuses.
-fn refused(question: u8) -> FrameAnalysis
-    ensures { λ r. ⌜ r ≡ refused question ⌝ }
-{
-    FrameAnalysis {
-        patterns: PatternsDetected::Refused(question),
-        validation: ValidationResult::zeros(),
-        statistics: FrameStatistics::zeros(),
-    }
 }
 
 // Validates a frame, counts its octets and writes its patterns at the front of `out`, whose rest stays. Or answers the first
@@ -34,16 +23,20 @@ pub fn analyze_frame(rule: CheckRule, frame: &[u8], out: &mut [u32]) -> FrameAna
 {
     let detected = patterns::detect_patterns(frame, out);
     match detected {
-        PatternsDetected::Count(count) => {
+        CountResult::Count(count) => {
             let validation = validation::validate_frame(rule, frame);
             let answer = statistics::calculate_frame_statistics(frame);
             let statistics = answer.statistics;
             FrameAnalysis {
-                patterns: PatternsDetected::Count(count),
+                patterns: CountResult::Count(count),
                 validation,
                 statistics,
             }
         }
-        PatternsDetected::Refused(question) => refused(question),
+        CountResult::Refused(question) => FrameAnalysis {
+            patterns: CountResult::Refused(question),
+            validation: ValidationResult::zeros(),
+            statistics: FrameStatistics::zeros(),
+        },
     }
 }

@@ -3,7 +3,6 @@
 use Prim.Native.Nat.{ℕ, _+_, _-_}
 use mathlib.Core.List.{List, [], _∷_}
 use lib.ListN.{getD, take, drop}
-use Rattle.finder.specs.declared.Report.{Report}
 use Rattle.log_record.specs.declared.LogRecord.{LogRecord}
 
 -- what a BVLC message carries: 1 and an NPDU from a start to the message's size, as place and octet count
@@ -21,10 +20,6 @@ noNpduNumbers = 3 ∷ 0 ∷ 0 ∷ []
 -- the payload of an Ethernet frame of a size: place and octet count
 abbrev pub payloadNumbers : ℕ → List ℕ
 payloadNumbers size = 17 ∷ (size - 17) ∷ []
-
--- a report: place and octet count
-abbrev pub reportNumbers : Report → List ℕ
-reportNumbers r = r .place ∷ r .count ∷ []
 
 -- a record of the log: kind, place of its first octet, octet count
 abbrev pub recordNumbers : LogRecord → List ℕ

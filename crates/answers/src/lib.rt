@@ -1,23 +1,24 @@
 // Answers told to callers in other languages: a number, which is 0 where there is a result, and lent memory, which then
 // holds the result, and else what it held before.
 use analysis::FrameAnalysis;
-use bip::BvlcMessage;
-use bvlc::BvlcDecoded;
+use bip_header::BvlcDecoded;
+use bip_message::BvlcMessage;
 use ethernet_decode::BACNET_ETHERNET_HEADER_SIZE;
 use ethernet_decode::EthernetDecoded;
-use ethernet_decode::EthernetResult;
-use finder::FrameFound;
-use log::Appended;
 use log_record::RecordRead;
 use mstp_decode::MstpDecoded;
-use octets::Written;
-use patterns::PatternsDetected;
-use reading::FramesRead;
+use octets::AcceptResult;
+use octets::CountResult;
+use run_finder::FrameFound;
 use statistics::StatisticsAnswer;
-use statistics::StatisticsResult;
 ghost use mathlib.Core.Path.{_≡_};
 ghost use Prim.Native.Nat.{_-_};
-ghost use Rattle.answers.specs.Told.{writtenNumber, writtenCount, mstpNumber, mstpHeader, bvlcNumber, bvlcHeader, messageNumber, messageCarried, ethernetNumber, decodedNumber, decodedDestination, decodedSource, decodedPayload, statisticsNumber, statisticsDistribution, statisticsCounts, patternsNumber, patternsCount, analysisNumber, analysisCount, analysisResult, analysisDistribution, analysisCounts, foundNumber, foundReport, readNumber, readCount, recordNumber, recordRead, appendedNumber, appendedUsed};
+ghost use Rattle.octets.specs.Answer.{countNumber, countOr, acceptNumber};
+ghost use Rattle.answers.specs.Told.{mstpNumber, mstpHeader, bvlcNumber, bvlcHeader, messageNumber, messageCarried};
+ghost use Rattle.answers.specs.Told.{decodedNumber, decodedDestination, decodedSource, decodedPayload};
+ghost use Rattle.answers.specs.Told.{statisticsNumber, statisticsDistribution, statisticsCounts};
+ghost use Rattle.answers.specs.Told.{analysisNumber, analysisCount, analysisResult, analysisDistribution, analysisCounts};
+ghost use Rattle.answers.specs.Told.{foundNumber, foundReport, recordNumber, recordRead};
 
 // "None", and "start reached".
 pub const NONE: u8 = 0xFE;
@@ -35,17 +36,17 @@ fn octets_from(start: usize, size: usize) -> usize
     size - start
 }
 
-// A writer's answer: the count of the octets written.
-pub fn tell_written(answer: Written, count: &mut usize) -> u8
-    ensures { λ r. ⌜ r ≡ writtenNumber answer ⌝ }
-    ensures count { λ r. ⌜ now (count .exit) ≡ writtenCount (now (count .entry)) answer ⌝ }
+// A count: of the octets written, of entries, of reports, of the octets used.
+pub fn tell_count(answer: CountResult, count: &mut usize) -> u8
+    ensures { λ r. ⌜ r ≡ countNumber answer ⌝ }
+    ensures count { λ r. ⌜ now (count .exit) ≡ countOr (now (count .entry)) answer ⌝ }
 {
     match answer {
-        Written::Count(n) => {
+        CountResult::Count(n) => {
             *count = n;
             0
         }
-        Written::Refused(question) => question,
+        CountResult::Refused(question) => question,
     }
 }
 
@@ -100,12 +101,12 @@ pub fn tell_message(answer: BvlcMessage, size: usize, carried: &mut [usize; 3]) 
 }
 
 // Whether octets are an Ethernet frame.
-pub fn tell_ethernet_result(answer: EthernetResult) -> u8
-    ensures { λ r. ⌜ r ≡ ethernetNumber answer ⌝ }
+pub fn tell_accepted(answer: AcceptResult) -> u8
+    ensures { λ r. ⌜ r ≡ acceptNumber answer ⌝ }
 {
     match answer {
-        EthernetResult::Accepted => 0,
-        EthernetResult::Refused(question) => question,
+        AcceptResult::Accepted => 0,
+        AcceptResult::Refused(question) => question,
     }
 }
 
@@ -124,7 +125,7 @@ pub fn tell_ethernet(
 {
     let result = answer.result;
     match result {
-        EthernetResult::Accepted => {
+        AcceptResult::Accepted => {
             let destination = answer.dest_mac;
             let source = answer.src_mac;
             *dest_mac = destination;
@@ -135,7 +136,7 @@ pub fn tell_ethernet(
             ];
             0
         }
-        EthernetResult::Refused(question) => question,
+        AcceptResult::Refused(question) => question,
     }
 }
 
@@ -151,28 +152,14 @@ pub fn tell_statistics(
 {
     let result = answer.result;
     match result {
-        StatisticsResult::Calculated => {
+        AcceptResult::Accepted => {
             let statistics = answer.statistics;
             let occurrences = statistics.byte_distribution;
             *distribution = occurrences;
             *counts = numbers::count_numbers(statistics);
             0
         }
-        StatisticsResult::Refused(question) => question,
-    }
-}
-
-// What the patterns' detection answers.
-pub fn tell_patterns(answer: PatternsDetected, count: &mut usize) -> u8
-    ensures { λ r. ⌜ r ≡ patternsNumber answer ⌝ }
-    ensures count { λ r. ⌜ now (count .exit) ≡ patternsCount (now (count .entry)) answer ⌝ }
-{
-    match answer {
-        PatternsDetected::Count(n) => {
-            *count = n;
-            0
-        }
-        PatternsDetected::Refused(question) => question,
+        AcceptResult::Refused(question) => question,
     }
 }
 
@@ -192,7 +179,7 @@ pub fn tell_analysis(
 {
     let detected = answer.patterns;
     match detected {
-        PatternsDetected::Count(n) => {
+        CountResult::Count(n) => {
             let result = answer.validation;
             let statistics = answer.statistics;
             let occurrences = statistics.byte_distribution;
@@ -202,7 +189,7 @@ pub fn tell_analysis(
             *count = n;
             0
         }
-        PatternsDetected::Refused(question) => question,
+        CountResult::Refused(question) => question,
     }
 }
 
@@ -221,20 +208,6 @@ pub fn tell_found(answer: FrameFound, report: &mut [usize; 2]) -> u8
     }
 }
 
-// What a whole reading answers.
-pub fn tell_read(answer: FramesRead, count: &mut usize) -> u8
-    ensures { λ r. ⌜ r ≡ readNumber answer ⌝ }
-    ensures count { λ r. ⌜ now (count .exit) ≡ readCount (now (count .entry)) answer ⌝ }
-{
-    match answer {
-        FramesRead::Count(n) => {
-            *count = n;
-            0
-        }
-        FramesRead::Refused(question) => question,
-    }
-}
-
 // What reading the log from an end answers.
 pub fn tell_record(answer: RecordRead, record: &mut [usize; 3]) -> u8
     ensures { λ r. ⌜ r ≡ recordNumber answer ⌝ }
@@ -247,19 +220,5 @@ pub fn tell_record(answer: RecordRead, record: &mut [usize; 3]) -> u8
         }
         RecordRead::StartReached => NONE,
         RecordRead::Refused(question) => question,
-    }
-}
-
-// What appending answers.
-pub fn tell_appended(answer: Appended, used: &mut usize) -> u8
-    ensures { λ r. ⌜ r ≡ appendedNumber answer ⌝ }
-    ensures used { λ r. ⌜ now (used .exit) ≡ appendedUsed (now (used .entry)) answer ⌝ }
-{
-    match answer {
-        Appended::Used(n) => {
-            *used = n;
-            0
-        }
-        Appended::Refused(question) => question,
     }
 }

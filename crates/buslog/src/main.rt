@@ -2,7 +2,7 @@
 // nothing is printed and standard error has a message.
 use libc::STDERR_FILENO;
 use libc::STDIN_FILENO;
-use list_input::InputListed;
+use log_input::InputListed;
 
 // Says why there is no listing.
 fn complain(message: &[u8]) {
@@ -10,7 +10,7 @@ fn complain(message: &[u8]) {
 }
 
 fn main() {
-    match list_input::list_input(STDIN_FILENO) {
+    match log_input::list_input(STDIN_FILENO) {
         InputListed::Printed(_) => {}
         InputListed::NotRead => complain(b"buslog: standard input cannot be read\n"),
         InputListed::NotWritten => complain(b"buslog: standard output cannot be written\n"),

@@ -1,7 +1,7 @@
 // Lists the logs that its arguments name, each behind its name, by the call that `buslog` makes: the gate's cases.
 // tools/log_model makes them and says what is printed.
 use libc::STDOUT_FILENO;
-use list_input::InputListed;
+use log_input::InputListed;
 
 // Prints some letters.
 fn print(letters: &[u8]) {
@@ -10,7 +10,7 @@ fn print(letters: &[u8]) {
 
 // Lists what a descriptor has.
 fn list_from(fd: i32) {
-    match list_input::list_input(fd) {
+    match log_input::list_input(fd) {
         InputListed::Printed(_) => {}
         InputListed::NotRead => print(b"not read\n"),
         InputListed::NotWritten => {}

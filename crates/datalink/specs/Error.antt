@@ -8,9 +8,9 @@ use Rattle.datalink.specs.declared.DataLinkError.{DataLinkError}
 use Rattle.datalink.specs.declared.DataLinkError.the-variants.{InvalidFrame, CrcError, Unmatched}
 
 -- the questions that the Rust asks too: 1 to 7 of MS/TP, 11 to 15 of BVLC messages, 21 to 24 of Ethernet
-unfoldable pub asked : ℕ → Bool
-asked q = within 1 7 q || (within 11 15 q || within 21 24 q)
+abbrev pub rustAsks : ℕ → Bool
+rustAsks q = within 1 7 q || (within 11 15 q || within 21 24 q)
 
 -- to them it answers CrcError for 4 and 6, and InvalidFrame for the others
-unfoldable pub errorOf : ℕ → DataLinkError
-errorOf q = cond (asked q) (cond (eqb q 4 || eqb q 6) CrcError InvalidFrame) Unmatched
+abbrev pub errorOf : ℕ → DataLinkError
+errorOf q = cond (rustAsks q) (cond (eqb q 4 || eqb q 6) CrcError InvalidFrame) Unmatched

@@ -1,6 +1,11 @@
 // The errors of the data links: datalink/mod.rs.
 ghost use mathlib.Core.Path.{_≡_};
-ghost use Rattle.datalink.specs.Error.{asked, errorOf};
+ghost use Rattle.datalink.specs.Error.{rustAsks, errorOf};
+
+// The questions about check octets.
+const HEADER_CHECK: u8 = 4;
+
+const DATA_CHECK: u8 = 6;
 
 // The Rust's error for a question.
 pub enum DataLinkError {
@@ -11,8 +16,8 @@ pub enum DataLinkError {
 }
 
 // Whether the Rust asks a question too: of MS/TP, of BVLC messages, of Ethernet.
-fn asked(question: u8) -> bool
-    ensures { λ r. ⌜ r ≡ asked question ⌝ }
+fn rust_asks(question: u8) -> bool
+    ensures { λ r. ⌜ r ≡ rustAsks question ⌝ }
 {
     if octets::within(1, 7, question) {
         return true;
@@ -27,11 +32,14 @@ fn asked(question: u8) -> bool
 pub fn data_link_error(question: u8) -> DataLinkError
     ensures { λ r. ⌜ r ≡ errorOf question ⌝ }
 {
-    if !asked(question) {
+    if !rust_asks(question) {
         return DataLinkError::Unmatched;
     }
-    match question {
-        4 | 6 => DataLinkError::CrcError,
-        _ => DataLinkError::InvalidFrame,
+    if question == HEADER_CHECK {
+        return DataLinkError::CrcError;
     }
+    if question == DATA_CHECK {
+        return DataLinkError::CrcError;
+    }
+    DataLinkError::InvalidFrame
 }

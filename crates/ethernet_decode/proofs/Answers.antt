@@ -10,9 +10,9 @@ use lib.Seq.{take-all}
 use Rattle.octets.specs.Question.{firstNo, answered}
 use Rattle.octets.proofs.Parts.{Octets}
 use Rattle.octets.proofs.Questions.{all-yes, none-fails, answered-value, answered-part, is-value, refusal, acceptance}
-use Rattle.ethernet_decode.specs.declared.EthernetResult.{EthernetResult}
-use Rattle.ethernet_decode.specs.declared.EthernetResult.the-variants.{Refused}
-use Rattle.ethernet_decode.specs.declared.EthernetResult.the-variants.{Accepted as Yes}
+use Rattle.octets.specs.declared.AcceptResult.{AcceptResult}
+use Rattle.octets.specs.declared.AcceptResult.the-variants.{Refused}
+use Rattle.octets.specs.declared.AcceptResult.the-variants.{Accepted as Yes}
 use Rattle.ethernet_decode.specs.declared.EthernetDecoded.{EthernetDecoded}
 use Rattle.ethernet_decode.specs.Frame.{bacnetType, unpadded}
 use Rattle.ethernet_decode.specs.Decode.{destinationOf, sourceOf, headerQuestions, decodeQuestions, decodeQuestion, accepted, refused, decode, payload, validateQuestions, validate}
@@ -87,7 +87,7 @@ module _ (s : List ℕ) where
       none-fails (validateQuestions s) (all .0, (le-leb (length s) 1514 size, all .1))
 
   -- the validator's answer, and what it promises
-  pub validated : {answer : EthernetResult} → answer ≡ validate s → (answer ≡ validate s) × Agrees s answer
+  pub validated : {answer : AcceptResult} → answer ≡ validate s → (answer ≡ validate s) × Agrees s answer
   unfolding validate
   validated e = (
     e,

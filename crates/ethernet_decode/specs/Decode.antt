@@ -7,8 +7,8 @@ use lib.Dec.{leb, eqb}
 use lib.ListN.{length, getD, take, drop, replicate}
 use Rattle.octets.specs.Number.{number}
 use Rattle.octets.specs.Question.{Question, ask, firstNo, answered}
-use Rattle.ethernet_decode.specs.declared.EthernetResult.{EthernetResult}
-use Rattle.ethernet_decode.specs.declared.EthernetResult.the-variants.{Accepted, Refused}
+use Rattle.octets.specs.declared.AcceptResult.{AcceptResult}
+use Rattle.octets.specs.declared.AcceptResult.the-variants.{Accepted, Refused}
 use Rattle.ethernet_decode.specs.declared.EthernetDecoded.{EthernetDecoded}
 use Rattle.ethernet_decode.specs.Frame.{bacnetType}
 
@@ -69,5 +69,5 @@ unfoldable pub validateQuestions : List ℕ → List Question
 validateQuestions s = ask 21 (leb 17 (length s)) ∷ ask 24 (leb (length s) 1514) ∷ headerQuestions s
 
 -- what the validator answers
-unfoldable pub validate : List ℕ → EthernetResult
+unfoldable pub validate : List ℕ → AcceptResult
 validate s = answered Refused (firstNo (validateQuestions s)) Accepted

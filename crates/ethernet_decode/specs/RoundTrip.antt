@@ -5,9 +5,9 @@ use mathlib.Core.List.{List}
 use Prim.Native.Nat.{ℕ, _≤_}
 use lib.ListN.{length}
 use Rattle.octets.specs.Output.{InFront}
-use Rattle.octets.specs.declared.Written.{Written}
-use Rattle.ethernet_decode.specs.declared.EthernetResult.{EthernetResult}
-use Rattle.ethernet_decode.specs.declared.EthernetResult.the-variants.{Accepted}
+use Rattle.octets.specs.declared.CountResult.{CountResult}
+use Rattle.octets.specs.declared.AcceptResult.{AcceptResult}
+use Rattle.octets.specs.declared.AcceptResult.the-variants.{Accepted}
 use Rattle.ethernet_decode.specs.declared.EthernetDecoded.{EthernetDecoded}
 use Rattle.ethernet_decode.specs.Frame.{bacnetType, unpadded, paddedPayload}
 use Rattle.ethernet_decode.specs.Decode.{accepted, decode, payload}
@@ -17,7 +17,7 @@ abbrev pub GivesBack : List ℕ → List ℕ → List ℕ → List ℕ → Type 
 GivesBack destination source body s = (decode s ≡ accepted destination source) × (payload s ≡ paddedPayload body)
 
 -- so do the octets that writing counts in front of the output
-abbrev pub ReadsBack : List ℕ → List ℕ → List ℕ → List ℕ → Written → Type 0
+abbrev pub ReadsBack : List ℕ → List ℕ → List ℕ → List ℕ → CountResult → Type 0
 ReadsBack destination source body out answer = InFront (GivesBack destination source body) answer out
 
 -- where reading accepts, the octets are a frame without padding, of the addresses read and the payload
@@ -35,7 +35,7 @@ PayloadOf s part =
     → part ≡ body
 
 -- the validator accepts exactly what reading accepts, up to 1514 octets
-abbrev pub Agrees : List ℕ → EthernetResult → Type 0
+abbrev pub Agrees : List ℕ → AcceptResult → Type 0
 Agrees s answer =
     (answer ≡ Accepted → (decode s .result ≡ Accepted) × (length s ≤ 1514))
     × ((decode s .result ≡ Accepted) × (length s ≤ 1514) → answer ≡ Accepted)

@@ -1,6 +1,7 @@
 // Reading and validating Ethernet frames: `EthernetFrame::decode` and `validate_ethernet_frame` of ethernet.rs.
 mod fields;
 
+use octets::AcceptResult;
 ghost use mathlib.Core.Path.{_≡_};
 ghost use Prim.Native.Nat.{_≤_};
 ghost use lib.ListN.{length};
@@ -26,15 +27,9 @@ pub const MIN_ETHERNET_FRAME_SIZE: usize = 60;
 
 pub const MAX_ETHERNET_FRAME_SIZE: usize = 1514;
 
-// Whether octets are a frame: accepted, or the number of the first question that failed.
-pub enum EthernetResult {
-    Accepted,
-    Refused(u8),
-}
-
 // What reading answers: the result, and both addresses, which are zeros where it refuses.
 pub struct EthernetDecoded {
-    pub result: EthernetResult,
+    pub result: AcceptResult,
     pub dest_mac: [u8; 6],
     pub src_mac: [u8; 6],
 }
@@ -71,13 +66,13 @@ pub fn decode(frame: &[u8]) -> EthernetDecoded
     let question = decode_question(frame);
     if question != 0 {
         return EthernetDecoded {
-            result: EthernetResult::Refused(question),
+            result: AcceptResult::Refused(question),
             dest_mac: [0; 6],
             src_mac: [0; 6],
         };
     }
     EthernetDecoded {
-        result: EthernetResult::Accepted,
+        result: AcceptResult::Accepted,
         dest_mac: fields::address(frame, 0),
         src_mac: fields::address(frame, 6),
     }
@@ -97,19 +92,19 @@ pub fn payload(frame: &[u8]) -> &[u8]
 
 // Whether octets are a frame that may be sent: exactly those that `decode` accepts, up to 1514 of them. Or the first
 // of questions 21, 24, 22 and 23 that fails.
-pub fn validate_ethernet_frame(frame: &[u8]) -> EthernetResult
+pub fn validate_ethernet_frame(frame: &[u8]) -> AcceptResult
     ensures { λ r. ⌜ r ≡ validate (now (frame .entry)) ⌝ }
     ensures agrees { λ r. ⌜ Agrees (now (frame .entry)) r ⌝ }
 {
     if frame.len() < BACNET_ETHERNET_HEADER_SIZE {
-        return EthernetResult::Refused(21);
+        return AcceptResult::Refused(21);
     }
     if MAX_ETHERNET_FRAME_SIZE < frame.len() {
-        return EthernetResult::Refused(24);
+        return AcceptResult::Refused(24);
     }
     let question = header_question(frame);
     if question != 0 {
-        return EthernetResult::Refused(question);
+        return AcceptResult::Refused(question);
     }
-    EthernetResult::Accepted
+    AcceptResult::Accepted
 }

@@ -1,3 +1,3 @@
-pub mod Gathered
 pub mod NoFindings
+pub mod Stored
 pub mod Valid

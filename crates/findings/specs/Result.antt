@@ -1,10 +1,10 @@
 -- The result of a validator: link, size, validity, and the findings in the order of its tests.
 -- Assumes nothing.
-use Prim.Native.Nat.{ℕ, _+_, _-_}
+use Prim.Native.Nat.{ℕ, _-_}
 use mathlib.Core.Bool.{Bool, false, cond, _&&_}
 use mathlib.Core.List.{List, [], _∷_, _++_}
 use lib.Dec.{eqb, ltb}
-use lib.ListN.{length, replicate, set}
+use lib.ListN.{length, replicate}
 use Rattle.findings.specs.declared.Finding.{Finding}
 use Rattle.findings.specs.declared.LinkType.{LinkType}
 use Rattle.findings.specs.declared.LinkType.the-variants.{None}
@@ -27,6 +27,10 @@ errorsOf minimum size tests = cond (ltb size minimum) (frameTooShort size minimu
 -- its warnings: none where it is too short
 unfoldable pub warningsOf : ℕ → ℕ → List Test → List Finding
 warningsOf minimum size tests = cond (ltb size minimum) [] (found tests)
+
+-- what a test stores behind the findings before it: its finding, or an unused entry
+abbrev pub stored : Test → Finding
+stored (finds fires entry) = cond fires entry unused
 
 -- n entries: some findings, and unused ones behind them
 unfoldable pub filled : ℕ → List Finding → List Finding
@@ -59,37 +63,3 @@ noResult = record {
   warnings = replicate 2 unused;
   «warning_count» = 0;
 }
-
--- a result with an error more, behind its count, if the test fires and there is room
-unfoldable pub withError : ValidationResult → Test → ValidationResult
-withError r (finds fires entry) =
-    cond fires
-    (cond (ltb (r .«error_count») 7)
-    (record {
-      «is_valid» = false;
-      «link_type» = r .«link_type»;
-      «frame_size» = r .«frame_size»;
-      errors = set (r .errors) (r .«error_count») entry;
-      «error_count» = r .«error_count» + 1;
-      warnings = r .warnings;
-      «warning_count» = r .«warning_count»;
-    })
-    r)
-    r
-
--- a result with a warning more
-unfoldable pub withWarning : ValidationResult → Test → ValidationResult
-withWarning r (finds fires entry) =
-    cond fires
-    (cond (ltb (r .«warning_count») 2)
-    (record {
-      «is_valid» = r .«is_valid»;
-      «link_type» = r .«link_type»;
-      «frame_size» = r .«frame_size»;
-      errors = r .errors;
-      «error_count» = r .«error_count»;
-      warnings = set (r .warnings) (r .«warning_count») entry;
-      «warning_count» = r .«warning_count» + 1;
-    })
-    r)
-    r

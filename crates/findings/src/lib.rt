@@ -1,9 +1,9 @@
 // The findings of the validators and the result that holds them: validation.rs.
 ghost use mathlib.Core.Path.{_≡_};
-ghost use mathlib.Core.List.{[]};
+ghost use mathlib.Core.List.{[], _∷_};
 ghost use Rattle.findings.specs.Finding.{finding};
 ghost use Rattle.findings.specs.Link.{linkNumber};
-ghost use Rattle.findings.specs.Result.{finds, result, noResult, withError, withWarning};
+ghost use Rattle.findings.specs.Result.{finds, stored, result, noResult};
 
 // Kinds of errors: the cases of `ValidationError`.
 pub const FRAME_TOO_SHORT: u8 = 1;
@@ -82,6 +82,27 @@ pub struct Finding {
     pub second: usize,
 }
 
+// An unused entry.
+pub const UNUSED: Finding = Finding {
+    kind: 0,
+    first: 0,
+    second: 0,
+};
+
+// The entry of a test: the one given where it fires, else an unused one.
+pub fn entry_if(fires: bool, kind: u8, first: usize, second: usize) -> Finding
+    ensures { λ r. ⌜ r ≡ stored (finds fires (finding kind first second)) ⌝ }
+{
+    if fires {
+        return Finding {
+            kind,
+            first,
+            second,
+        };
+    }
+    UNUSED
+}
+
 // What a validator answers. Valid means no errors; the entries past a count are unused.
 pub struct ValidationResult {
     pub is_valid: bool,
@@ -98,88 +119,40 @@ impl ValidationResult {
     pub fn zeros() -> ValidationResult
         ensures { λ r. ⌜ r ≡ noResult ⌝ }
     {
-        let unused = Finding {
-            kind: 0,
-            first: 0,
-            second: 0,
-        };
         ValidationResult {
             is_valid: false,
             link_type: LinkType::None,
             frame_size: 0,
-            errors: [unused; 7],
+            errors: [UNUSED; 7],
             error_count: 0,
-            warnings: [unused; 2],
+            warnings: [UNUSED; 2],
             warning_count: 0,
         }
     }
 
-    // A result without findings.
-    pub fn new(link_type: LinkType, frame_size: usize) -> ValidationResult
-        ensures { λ r. ⌜ r ≡ result «link_type» «frame_size» [] [] ⌝ }
+    // A result with one error alone.
+    pub fn one_error(
+        link_type: LinkType,
+        frame_size: usize,
+        kind: u8,
+        first: usize,
+        second: usize,
+    ) -> ValidationResult
+        ensures { λ r. ⌜ r ≡ result «link_type» «frame_size» (finding kind first second ∷ []) [] ⌝ }
     {
-        let zeros = ValidationResult::zeros();
-        let errors = zeros.errors;
-        let warnings = zeros.warnings;
+        let error = Finding {
+            kind,
+            first,
+            second,
+        };
         ValidationResult {
-            is_valid: true,
+            is_valid: false,
             link_type,
             frame_size,
-            errors,
-            error_count: zeros.error_count,
-            warnings,
-            warning_count: zeros.warning_count,
+            errors: [error, UNUSED, UNUSED, UNUSED, UNUSED, UNUSED, UNUSED],
+            error_count: 1,
+            warnings: [UNUSED; 2],
+            warning_count: 0,
         }
-    }
-
-    // The result with an error more where the test fires. A full one stays as it is.
-    pub fn error_if(
-        mut self,
-        fires: bool,
-        kind: u8,
-        first: usize,
-        second: usize,
-    ) -> ValidationResult
-        ensures { λ r. ⌜ r ≡ withError self (finds fires (finding kind first second)) ⌝ }
-    {
-        let at = self.error_count;
-        if fires {
-            if at < 7 {
-                self.errors[at] = Finding {
-                    kind,
-                    first,
-                    second,
-                };
-                self.error_count = at + 1;
-                self.is_valid = false;
-                return self;
-            }
-        }
-        self
-    }
-
-    // The result with a warning more where the test fires. A full one stays as it is.
-    pub fn warning_if(
-        mut self,
-        fires: bool,
-        kind: u8,
-        first: usize,
-        second: usize,
-    ) -> ValidationResult
-        ensures { λ r. ⌜ r ≡ withWarning self (finds fires (finding kind first second)) ⌝ }
-    {
-        let at = self.warning_count;
-        if fires {
-            if at < 2 {
-                self.warnings[at] = Finding {
-                    kind,
-                    first,
-                    second,
-                };
-                self.warning_count = at + 1;
-                return self;
-            }
-        }
-        self
     }
 }

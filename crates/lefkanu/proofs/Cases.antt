@@ -7,9 +7,9 @@ use Rattle.crc.specs.declared.CheckRule.{CheckRule}
 use Rattle.mstp_frame.specs.declared.MstpFrameType.{MstpFrameType}
 use Rattle.mstp_frame.specs.declared.FrameTypeRead.the-variants as T
 use Rattle.mstp_frame.specs.FrameType.{typeOf, fromU8}
-use Rattle.bvlc.specs.declared.function.BvlcFunction.{BvlcFunction}
-use Rattle.bvlc.specs.declared.function.FunctionRead.the-variants as F
-use Rattle.bvlc.specs.Function.{functionOf, tryFrom}
+use Rattle.bip_header.specs.declared.function.BvlcFunction.{BvlcFunction}
+use Rattle.bip_header.specs.declared.function.FunctionRead.the-variants as F
+use Rattle.bip_header.specs.Function.{functionOf, tryFrom}
 use Rattle.numbers.specs.Named.{forCase, ruleOf, underRule}
 use Rattle.numbers.proofs.Named.{no-case, names, names-none, told}
 

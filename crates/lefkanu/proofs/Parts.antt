@@ -11,10 +11,11 @@ use lib.Seq.{take-all}
 use Rattle.octets.specs.Question.{answered}
 use Rattle.crc.specs.declared.CheckRule.{CheckRule}
 use Rattle.mstp_decode.specs.declared.MstpDecoded.the-variants as M
+use Rattle.mstp_frame.specs.Fields.{dataPart}
 use Rattle.mstp_decode.specs.Decode as mstp
-use Rattle.bip.specs.declared.BvlcMessage.{BvlcMessage}
-use Rattle.bip.specs.declared.BvlcMessage.the-variants.{Npdu}
-use Rattle.bip.specs.Message.{process, npduOf, npdu}
+use Rattle.bip_message.specs.declared.BvlcMessage.{BvlcMessage}
+use Rattle.bip_message.specs.declared.BvlcMessage.the-variants.{Npdu}
+use Rattle.bip_message.specs.Message.{process, npduOf, npdu}
 use Rattle.ethernet_decode.specs.declared.EthernetDecoded.{EthernetDecoded}
 use Rattle.ethernet_decode.specs.Decode as ethernet
 use Rattle.log_record.specs.declared.RecordRead.{RecordRead}
@@ -31,11 +32,11 @@ rest n s = take-all (length s - n) (drop n s) (omega (arith, length-drop n s))
 -- the data of an MS/TP frame
 pub data-named : (rule : CheckRule) (s before : List ℕ) → mstpNumber (mstp.decode rule s) ≡ 0
     → partNamed 6 (mstpHeader before (mstp.decode rule s)) s ≡ mstp.frameData rule s
-unfolding mstp.decode mstp.frameData answered headerNumbers mstp.headerOf mstp.dataPart
+unfolding mstp.decode mstp.frameData answered headerNumbers mstp.headerOf dataPart
 data-named rule s before e = by (mstp.decodeQuestion rule s) e
   where
     by : (q : ℕ) → mstpNumber (answered M.Refused q (M.Frame (mstp.headerOf s))) ≡ 0
-        → partNamed 6 (mstpHeader before (answered M.Refused q (M.Frame (mstp.headerOf s)))) s ≡ answered (λ _. []) q (mstp.dataPart s)
+        → partNamed 6 (mstpHeader before (answered M.Refused q (M.Frame (mstp.headerOf s)))) s ≡ answered (λ _. []) q (dataPart s)
     by zero none = refl
     by (suc q) none = absurd (omega arith)
 

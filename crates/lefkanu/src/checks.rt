@@ -24,7 +24,8 @@ pub extern "C" fn lefkanu_calculate_header_crc(rule: u8, header: &[u8; 5], crc: 
 #[no_mangle]
 pub extern "C" fn lefkanu_crc16_mstp(rule: u8, data: &[u8], crc: &mut u16) -> u8
     ensures { λ r. ⌜ r ≡ underRule rule (λ _. 0) noCase ⌝ }
-    ensures crc { λ r. ⌜ now (crc .exit) ≡ underRule rule (λ rule. dataCheck rule (now («data» .entry))) (now (crc .entry)) ⌝ }
+    ensures crc { λ r. ⌜ now (crc .exit)
+        ≡ underRule rule (λ rule. dataCheck rule (now («data» .entry))) (now (crc .entry)) ⌝ }
 {
     if LAST_RULE < rule {
         return NO_CASE;

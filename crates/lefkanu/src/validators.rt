@@ -20,7 +20,8 @@ pub extern "C" fn lefkanu_validate_mstp_frame(
     result: &mut [usize; 32],
 ) -> u8
     ensures { λ r. ⌜ r ≡ underRule rule (λ _. 0) noCase ⌝ }
-    ensures result { λ r. ⌜ now (result .exit) ≡ underRule rule (λ rule. resultNumbers (mstpResult rule (now (frame .entry)))) (now (result .entry)) ⌝ }
+    ensures result { λ r. ⌜ now (result .exit)
+        ≡ underRule rule (λ rule. resultNumbers (mstpResult rule (now (frame .entry)))) (now (result .entry)) ⌝ }
 {
     if LAST_RULE < rule {
         return NO_CASE;
@@ -30,7 +31,7 @@ pub extern "C" fn lefkanu_validate_mstp_frame(
         *result = numbers::clean_numbers(LinkType::MsTP, frame.len());
         return 0;
     }
-    *result = numbers::result_numbers(validation::validate_mstp_frame(named, frame));
+    *result = numbers::result_numbers(validation_mstp::validate_mstp_frame(named, frame));
     0
 }
 
@@ -43,7 +44,7 @@ pub extern "C" fn lefkanu_validate_bacnet_ip_frame(message: &[u8], result: &mut 
         *result = numbers::clean_numbers(LinkType::BacnetIp, message.len());
         return;
     }
-    *result = numbers::result_numbers(validation::validate_bacnet_ip_frame(message));
+    *result = numbers::result_numbers(validation_ip::validate_bacnet_ip_frame(message));
 }
 
 // Checks an Ethernet frame.
@@ -55,14 +56,15 @@ pub extern "C" fn lefkanu_validate_ethernet_frame(frame: &[u8], result: &mut [us
         *result = numbers::clean_numbers(LinkType::Ethernet, frame.len());
         return;
     }
-    *result = numbers::result_numbers(validation::validate_ethernet_frame(frame));
+    *result = numbers::result_numbers(validation_ethernet::validate_ethernet_frame(frame));
 }
 
 // Checks a frame by the validator of the link that its octets tell.
 #[no_mangle]
 pub extern "C" fn lefkanu_validate_frame(rule: u8, frame: &[u8], result: &mut [usize; 32]) -> u8
     ensures { λ r. ⌜ r ≡ underRule rule (λ _. 0) noCase ⌝ }
-    ensures result { λ r. ⌜ now (result .exit) ≡ underRule rule (λ rule. resultNumbers (frameResult rule (now (frame .entry)))) (now (result .entry)) ⌝ }
+    ensures result { λ r. ⌜ now (result .exit)
+        ≡ underRule rule (λ rule. resultNumbers (frameResult rule (now (frame .entry)))) (now (result .entry)) ⌝ }
 {
     if LAST_RULE < rule {
         return NO_CASE;

@@ -14,8 +14,8 @@ use Rattle.octets.specs.Question.{ask, firstNo}
 use Rattle.octets.proofs.Numbers.{number-of, high-first-of}
 use Rattle.octets.proofs.Parts.{Octets, part-is}
 use Rattle.octets.proofs.Questions.{all-yes, is-value}
-use Rattle.log_record.specs.Record.{knownKind, payloadSize, trailer, recordOctets}
-use Rattle.log_record.specs.Read.{logRecord, kindBefore, lengthBefore, trailerQuestions, readQuestion, recordBefore, readRecord, payloadIn, payloadOf, EndsAt, ReadsWhatEnds}
+use Rattle.log_record.specs.Record.{knownKind, allowedSize, trailer, recordOctets}
+use Rattle.log_record.specs.Read.{logRecord, kindBefore, lengthBefore, trailerQuestions, readQuestion, recordBefore, readRecord, payloadIn, EndsAt, ReadsWhatEnds}
 use Rattle.log_record.specs.declared.LogRecord.{LogRecord}
 use Rattle.log_record.specs.declared.RecordRead.{RecordRead}
 use Rattle.log_record.specs.declared.RecordRead.the-variants.{Record, StartReached, Refused}
@@ -27,7 +27,7 @@ pub record Trailer (log : List ℕ) (end : ℕ) (x : LogRecord) : Type 0 where
   pub kind : kindBefore log end ≡ x .kind
   pub size : lengthBefore log end ≡ x .length
   pub known : knownKind (x .kind) ≡ true
-  pub sized : payloadSize (x .length) ≡ true
+  pub sized : allowedSize (x .length) ≡ true
   pub ends : x .start + (x .length + 3) ≡ end
 
 pub trailer-read : (log : List ℕ) (end : ℕ) (x : LogRecord) → readRecord log end ≡ Record x → Trailer log end x
@@ -117,7 +117,7 @@ module _ (log before : List ℕ) (kind : ℕ) (payload : List ℕ) (end : ℕ) (
       let j : end - 1 ≡ length before + (length payload + 2) = omega (arith, end-is) in
       sym (rw (i, j, octet-at 1 (omega arith), octet-at 2 (omega arith)) (number-of (length payload)))
 
-  pub read-there : knownKind kind ≡ true → payloadSize (length payload) ≡ true → readRecord log end ≡ Record (logRecord kind (length before) (length payload))
+  pub read-there : knownKind kind ≡ true → allowedSize (length payload) ≡ true → readRecord log end ≡ Record (logRecord kind (length before) (length payload))
   read-there known sized =
       let start : end - (length payload + 3) ≡ length before = omega (arith, end-is) in
       sym (reads log end (omega (arith, end-is)) fits (omega (arith, end-is)) {known = true} (sym known ∙ ap knownKind (sym kind-is)) refl length-is {sized = true} (sym sized) refl (omega (arith, end-is)))
@@ -147,17 +147,9 @@ ends-read log end x e =
     let behind = length-drop (x .start) log in
     let start : length (take (x .start) log) ≡ x .start = omega (arith, is, e .fits) in
     let size : length (payloadIn log x) ≡ x .length = omega (arith, is, e .fits) in
-    read-there log (take (x .start) log) (x .kind) (payloadIn log x) end (e .fits) (e .octets) (e .known) (ap payloadSize size ∙ e .sized)
+    read-there log (take (x .start) log) (x .kind) (payloadIn log x) end (e .fits) (e .octets) (e .known) (ap allowedSize size ∙ e .sized)
     ∙ ap₂ (λ (i n : ℕ). Record (logRecord (x .kind) i n)) start size
 
 -- the promise of reading
 pub what-ends : (log : List ℕ) → Octets log → (end : ℕ) {r : RecordRead} → r ≡ readRecord log end → (r ≡ readRecord log end) × ReadsWhatEnds log end r
 what-ends log octets end e = (e, λ x. (λ same. ends-there log octets end x (sym e ∙ same), λ there. e ∙ ends-read log end x there))
-
--- the part that the code answers
-pub payload-part : (log : List ℕ) (end : ℕ) {x : LogRecord} → readRecord log end ≡ Record x
-    → take (x .start + x .length - x .start) (drop (x .start) log) ≡ payloadOf log (readRecord log end)
-payload-part log end {x} e = let n : x .start + x .length - x .start ≡ x .length = omega arith in rw (e, n)
-
-pub payload-none : (log : List ℕ) (end : ℕ) {a : RecordRead} → readRecord log end ≡ a → payloadOf log a ≡ [] → [] ≡ payloadOf log (readRecord log end)
-payload-none log end e none = sym (ap (payloadOf log) e ∙ none)

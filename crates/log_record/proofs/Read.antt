@@ -10,7 +10,7 @@ use lib.Dec.{leb}
 use lib.ListN.{length}
 use Rattle.octets.specs.Question.{ask, firstNo}
 use Rattle.octets.proofs.Questions.{passed, failed, ended, refusal, acceptance}
-use Rattle.log_record.specs.Record.{knownKind, payloadSize}
+use Rattle.log_record.specs.Record.{knownKind, allowedSize}
 use Rattle.log_record.specs.Read.{logRecord, kindBefore, lengthBefore, trailerQuestions, readQuestion, recordBefore, readRecord}
 use Rattle.log_record.specs.declared.RecordRead.the-variants.{Record, StartReached, Refused}
 
@@ -43,7 +43,7 @@ module _ (log : List ℕ) (end : ℕ) (some : 0 < end) (fits : end ≤ length lo
     pub no-kind : known ≡ false → Refused 42 ≡ readRecord log end
     no-kind e = refused (passed 41 _ (le-leb 3 end three) (failed 42 _ (sym kind-asked ∙ e))) (λ z. omega arith)
 
-    module _ (kind : known ≡ true) {n : ℕ} (length-is : n ≡ lengthBefore log end) {sized : Bool} (size-asked : sized ≡ payloadSize n) where
+    module _ (kind : known ≡ true) {n : ℕ} (length-is : n ≡ lengthBefore log end) {sized : Bool} (size-asked : sized ≡ allowedSize n) where
       pub no-size : sized ≡ false → Refused 43 ≡ readRecord log end
       no-size e =
           refused

@@ -8,7 +8,7 @@ use lib.Dec.{leb, eqb}
 use lib.ListN.{length, getD, take, drop}
 use Rattle.octets.specs.Number.{number}
 use Rattle.octets.specs.Question.{Question, ask, firstNo, answered}
-use Rattle.log_record.specs.Record.{knownKind, payloadSize, trailerSize, recordOctets}
+use Rattle.log_record.specs.Record.{knownKind, allowedSize, trailerSize, recordOctets}
 use Rattle.log_record.specs.declared.LogRecord.{LogRecord}
 use Rattle.log_record.specs.declared.RecordRead.{RecordRead}
 use Rattle.log_record.specs.declared.RecordRead.the-variants.{Record, StartReached, Refused}
@@ -31,7 +31,7 @@ module _ (log : List ℕ) (end : ℕ) where
   trailerQuestions =
       ask 41 (leb trailerSize end)
       ∷ ask 42 (knownKind kindBefore)
-      ∷ ask 43 (payloadSize lengthBefore)
+      ∷ ask 43 (allowedSize lengthBefore)
       ∷ ask 44 (leb (lengthBefore + trailerSize) end)
       ∷ []
 
@@ -60,7 +60,7 @@ payloadOf log (Refused question) = []
 -- a record ends there: up to the end the log is what stands before its start, and then the record
 pub record EndsAt (log : List ℕ) (end : ℕ) (x : LogRecord) : Type 0 where
   pub known : knownKind (x .kind) ≡ true
-  pub sized : payloadSize (x .length) ≡ true
+  pub sized : allowedSize (x .length) ≡ true
   pub fits : end ≤ length log
   pub octets : take end log ≡ take (x .start) log ++ recordOctets (x .kind) (payloadIn log x)
 

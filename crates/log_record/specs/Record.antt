@@ -17,8 +17,8 @@ abbrev pub knownKind : ℕ → Bool
 knownKind = within 1 3
 
 -- how many octets a record may have
-abbrev pub payloadSize : ℕ → Bool
-payloadSize = within 1 1514
+abbrev pub allowedSize : ℕ → Bool
+allowedSize = within 1 1514
 
 -- the trailer: kind and length
 abbrev pub trailer : ℕ → ℕ → List ℕ

@@ -2,8 +2,8 @@
 ghost use mathlib.Core.Path.{_≡_};
 ghost use Prim.Native.Nat.{_≤_, _<_};
 ghost use lib.ListN.{length};
-ghost use Rattle.log_record.specs.Record.{knownKind, payloadSize};
-ghost use Rattle.log_record.specs.Read.{readRecord, payloadOf, ReadsWhatEnds};
+ghost use Rattle.log_record.specs.Record.{knownKind, allowedSize};
+ghost use Rattle.log_record.specs.Read.{readRecord, payloadIn, payloadOf, ReadsWhatEnds};
 
 // The kinds of records.
 pub const BUS: u8 = 1;
@@ -41,8 +41,8 @@ pub fn known_kind(kind: u8) -> bool
 }
 
 // Whether a record may have that many octets.
-pub fn payload_size(n: usize) -> bool
-    ensures { λ r. ⌜ r ≡ payloadSize n ⌝ }
+pub fn allowed_size(n: usize) -> bool
+    ensures { λ r. ⌜ r ≡ allowedSize n ⌝ }
 {
     if n < 1 {
         return false;
@@ -63,7 +63,7 @@ fn record_before(log: &[u8], end: usize) -> RecordRead
         return RecordRead::Refused(42);
     }
     let length = octets::number(log[end - 2], log[end - 1]) as usize;
-    if !payload_size(length) {
+    if !allowed_size(length) {
         return RecordRead::Refused(43);
     }
     let size = length + TRAILER_SIZE;
@@ -93,16 +93,27 @@ pub fn read_record(log: &[u8], end: usize) -> RecordRead
     record_before(log, end)
 }
 
+// The octets of a record in a log, as a part of it: as many of them as the log has.
+pub fn payload_in(log: &[u8], record: LogRecord) -> &[u8]
+    ensures { λ r. ⌜ now r ≡ payloadIn (now (log .entry)) «record» ⌝ }
+{
+    let start = record.start;
+    let length = record.length;
+    if log.len() < start {
+        return &log[..0];
+    }
+    if log.len() - start < length {
+        return &log[start..];
+    }
+    &log[start..start + length]
+}
+
 // The octets of the record that ends at an end of the log, as a part of it. Empty where `read_record` answers no record.
 pub fn record_payload(log: &[u8], end: usize) -> &[u8]
     ensures { λ r. ⌜ now r ≡ payloadOf (now (log .entry)) (readRecord (now (log .entry)) end) ⌝ }
 {
     match read_record(log, end) {
-        RecordRead::Record(record) => {
-            let start = record.start;
-            let behind = start + record.length;
-            &log[start..behind]
-        }
+        RecordRead::Record(record) => payload_in(log, record),
         RecordRead::StartReached => &log[..0],
         RecordRead::Refused(_) => &log[..0],
     }

@@ -1,22 +1,21 @@
 -- What `decode` and `frame_data` answer, with the round trip that each promises.
 -- Assumes nothing.
-use mathlib.Core.Path.{_≡_, refl, sym, ap, _∙_}
+use mathlib.Core.Path.{_≡_, sym, ap, _∙_}
 use mathlib.Core.List.{List, []}
-use Prim.Native.Nat.{ℕ, zero, suc, _+_, _-_, _≤_}
+use Prim.Native.Nat.{ℕ}
 use native.Mathlib.Omega.{arith}
-use lib.ListN.{length, take, drop}
 use Rattle.octets.proofs.Parts.{Octets}
 use Rattle.octets.proofs.Questions.{refusal, acceptance}
 use Rattle.crc.specs.declared.CheckRule.{CheckRule}
 use Rattle.mstp_decode.specs.declared.MstpHeader.{MstpHeader}
 use Rattle.mstp_decode.specs.declared.MstpDecoded.{MstpDecoded}
 use Rattle.mstp_decode.specs.declared.MstpDecoded.the-variants.{Frame, Refused}
-use Rattle.mstp_decode.specs.Decode.{dataLength, dataPart, decodeQuestion, headerOf, decode, frameData}
+use Rattle.mstp_frame.specs.Fields.{dataPart}
+use Rattle.mstp_decode.specs.Decode.{decodeQuestion, headerOf, decode, frameData}
 use Rattle.mstp_frame.specs.Frame.{encodeFrame}
 use Rattle.mstp_decode.specs.RoundTrip.{WritesBack, DataOf}
 use Rattle.mstp_decode.proofs.Accepted.{Accepted, accepted}
 use Rattle.mstp_decode.proofs.ReadsBack.{data-back}
-use Rattle.mstp_frame.proofs.Sizes.{size-some}
 use Rattle.mstp_decode.proofs.WritesBack.{written-back}
 
 module _ (rule : CheckRule) (s : List ℕ) where
@@ -62,17 +61,5 @@ module _ (rule : CheckRule) (s : List ℕ) where
             → s ≡ encodeFrame rule (other .«frame_type») (other .destination) (other .source) (frameData rule s)
         back other f = rw (f, ← part-is) (written-back rule s octets facts)
 
-    -- the data end within the frame
-    pub data-end : 8 + dataLength s ≤ length s
-    data-end = by (dataLength s) refl
-      where
-        by : (n : ℕ) → n ≡ dataLength s → 8 + n ≤ length s
-        by zero e = omega (arith, facts .long)
-        by (suc n) e = omega (arith, facts .size, size-some (dataLength s) (λ z. omega arith))
-
-    pub data-accepted : {n : ℕ} → n ≡ dataLength s → Data (take (8 + n - 8) (drop 8 s))
-    unfolding dataPart
-    data-accepted {n} e = data-of (ap (λ (k : ℕ). take k (drop 8 s)) counted ∙ part-is)
-      where
-        counted : 8 + n - 8 ≡ dataLength s
-        counted = omega (arith, e)
+    pub data-accepted : {part : List ℕ} → part ≡ dataPart s → Data part
+    data-accepted e = data-of (e ∙ part-is)

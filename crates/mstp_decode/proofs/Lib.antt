@@ -1,5 +1,4 @@
 pub mod Accepted
 pub mod Answers
-pub mod Decodes
 pub mod ReadsBack
 pub mod WritesBack

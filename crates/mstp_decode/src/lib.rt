@@ -2,12 +2,11 @@
 mod fields;
 
 use crc::CheckRule;
-use mstp_frame::FrameTypeRead;
 use mstp_frame::MSTP_HEADER_SIZE;
 use mstp_frame::MSTP_LAST_TYPE;
 use mstp_frame::MstpFrameType;
 ghost use mathlib.Core.Path.{_≡_};
-ghost use Rattle.mstp_decode.specs.Decode.{decodeQuestion, decode, frameData};
+ghost use Rattle.mstp_decode.specs.Decode.{checksQuestion, decodeQuestion, decode, frameData};
 ghost use Rattle.mstp_decode.specs.RoundTrip.{WritesBack, DataOf};
 
 // The data check of a frame, present only if there are data.
@@ -32,6 +31,22 @@ pub enum MstpDecoded {
     Refused(u8),
 }
 
+// The first of questions 4 to 6 that `frame` fails, or 0: the header check, the size and the data check.
+pub fn checks_question(rule: CheckRule, frame: &[u8]) -> u8
+    ensures { λ r. ⌜ r ≡ checksQuestion rule (now (frame .entry)) ⌝ }
+{
+    if !fields::header_check_right(rule, frame) {
+        return 4;
+    }
+    if frame.len() != mstp_frame::frame_size(mstp_frame::data_length(frame)) {
+        return 5;
+    }
+    if !fields::data_check_right(rule, frame) {
+        return 6;
+    }
+    0
+}
+
 // The first of questions 1 to 6 that `frame` fails, or 0.
 fn decode_question(rule: CheckRule, frame: &[u8]) -> u8
     ensures { λ r. ⌜ r ≡ decodeQuestion rule (now (frame .entry)) ⌝ }
@@ -39,23 +54,13 @@ fn decode_question(rule: CheckRule, frame: &[u8]) -> u8
     if frame.len() < MSTP_HEADER_SIZE {
         return 1;
     }
-    if !fields::begins_preamble(frame) {
+    if !mstp_frame::begins_preamble(frame) {
         return 2;
     }
-    if MSTP_LAST_TYPE < frame[2] {
+    if MSTP_LAST_TYPE < mstp_frame::frame_type(frame) {
         return 3;
     }
-    if !fields::header_check_right(rule, frame) {
-        return 4;
-    }
-    let n = fields::data_length(frame);
-    if frame.len() != mstp_frame::frame_size(n) {
-        return 5;
-    }
-    if !fields::data_check_right(rule, frame, n) {
-        return 6;
-    }
-    0
+    checks_question(rule, frame)
 }
 
 // Reads a frame: its header, which written anew with the frame's data is the frame, or the first question that fails.
@@ -67,13 +72,7 @@ pub fn decode(rule: CheckRule, frame: &[u8]) -> MstpDecoded
     if question != 0 {
         return MstpDecoded::Refused(question);
     }
-    match MstpFrameType::from_u8(frame[2]) {
-        FrameTypeRead::Known(frame_type) => MstpDecoded::Frame(fields::header_of(
-            frame,
-            frame_type,
-        )),
-        FrameTypeRead::Unknown => MstpDecoded::Refused(3),
-    }
+    MstpDecoded::Frame(fields::header_of(frame))
 }
 
 // The data of a frame, as a part of its octets: exactly what it was written with. Empty where `decode` refuses.
@@ -84,6 +83,5 @@ pub fn frame_data(rule: CheckRule, frame: &[u8]) -> &[u8]
     if decode_question(rule, frame) != 0 {
         return &frame[..0];
     }
-    let end = MSTP_HEADER_SIZE + fields::data_length(frame) as usize;
-    &frame[MSTP_HEADER_SIZE..end]
+    mstp_frame::data_part(frame)
 }

@@ -9,8 +9,8 @@ use Rattle.mstp_frame.specs.FrameType.{typeNumber}
 use Rattle.mstp_decode.specs.declared.DataCrc.{DataCrc}
 use Rattle.mstp_decode.specs.declared.DataCrc.the-variants.{Present, Absent}
 use Rattle.mstp_decode.specs.declared.MstpHeader.{MstpHeader}
-use Rattle.bvlc.specs.declared.BvlcHeader.{BvlcHeader}
-use Rattle.bvlc.specs.Function.{functionNumber}
+use Rattle.bip_header.specs.declared.BvlcHeader.{BvlcHeader}
+use Rattle.bip_header.specs.Function.{functionNumber}
 use Rattle.findings.specs.declared.Finding.{Finding}
 use Rattle.findings.specs.declared.ValidationResult.{ValidationResult}
 use Rattle.findings.specs.Link.{linkNumber}

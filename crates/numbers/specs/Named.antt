@@ -7,8 +7,8 @@ use Rattle.crc.specs.declared.CheckRule.{CheckRule}
 use Rattle.crc.specs.declared.CheckRule.the-variants.{AnnexG, House}
 use Rattle.mstp_frame.specs.declared.MstpFrameType.{MstpFrameType}
 use Rattle.mstp_frame.specs.FrameType.{typeOf}
-use Rattle.bvlc.specs.declared.function.BvlcFunction.{BvlcFunction}
-use Rattle.bvlc.specs.Function.{functionOf}
+use Rattle.bip_header.specs.declared.function.BvlcFunction.{BvlcFunction}
+use Rattle.bip_header.specs.Function.{functionOf}
 
 -- what there is for the case of a number from 0 to the last; something else where the number names none
 unfoldable pub forCase : {A B : Type 0} → ℕ → (ℕ → A) → ℕ → (A → B) → B → B

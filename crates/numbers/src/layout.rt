@@ -1,5 +1,5 @@
 // Results as arrays of numbers, for callers in other languages.
-use bvlc::BvlcHeader;
+use bip_header::BvlcHeader;
 use findings::Finding;
 use findings::LinkType;
 use findings::ValidationResult;
@@ -10,7 +10,8 @@ use statistics::FrameStatistics;
 ghost use mathlib.Core.Path.{_≡_};
 ghost use mathlib.Core.List.{[], _∷_, _++_, flatMap};
 ghost use Rattle.findings.specs.Result.{result};
-ghost use Rattle.numbers.specs.Layout.{dataCrcThere, dataCrcNumber, headerNumbers, bvlcNumbers, entryNumbers, resultNumbers, countNumbers};
+ghost use Rattle.numbers.specs.Layout.{dataCrcThere, dataCrcNumber, headerNumbers, bvlcNumbers, entryNumbers};
+ghost use Rattle.numbers.specs.Layout.{resultNumbers, countNumbers};
 
 // The same number.
 fn wide(x: u8) -> usize

@@ -11,10 +11,10 @@ use lib.Dec.{leb}
 use lib.ListN.{length, getD}
 use Rattle.patterns.specs.declared.Entry.{Entry}
 use Rattle.patterns.specs.Stretches.{Stretch, stretch, stretches}
-use Rattle.patterns.specs.Entries.{entry, when, mark, last, paddingLength, padding, printable, text, texts, hasZeros, hasSequence, entries, numbersOf, numbers}
+use Rattle.patterns.specs.Entries.{entry, when, mark, last, paddingLength, padding, printable, text, texts, hasZeros, hasSequence, entries, numbersOf, entryNumbers}
 use Rattle.patterns.specs.Laws.{numbersAt, Shown, Padding, Text}
 use Rattle.patterns.proofs.Stretches.{each, every}
-use Rattle.patterns.proofs.Paddings.{run-is, run-only}
+use Rattle.patterns.proofs.Paddings.{padding-is, padding-only}
 
 -- members of a list, and the numbers of entries in it
 
@@ -33,8 +33,8 @@ at-suc : (a b c d : ℕ) (l : List ℕ) (k : ℕ) → numbersAt (a ∷ b ∷ c �
 at-suc a b c d l k = let z : 4 * suc k ≡ suc (suc (suc (suc (4 * k)))) = omega arith in rw z
 
 module _ (rest : List ℕ) where
-  at-place : (es : List Entry) (k : ℕ) → k < length es → AtPlace es (numbers es ++ rest) k
-  unfolding numbers flatMap
+  at-place : (es : List Entry) (k : ℕ) → k < length es → AtPlace es (entryNumbers es ++ rest) k
+  unfolding entryNumbers flatMap
   at-place [] k h = absurd (omega arith)
   at-place (e ∷ es) zero h = record { one = e; member = List·Memᴰ·head refl; numbered = refl }
   at-place (e ∷ es) (suc k) h =
@@ -42,15 +42,15 @@ module _ (rest : List ℕ) where
       record {
         one = more .one;
         member = List·Memᴰ·tail (more .member);
-        numbered = at-suc (e .pattern) (e .start) (e .length) (e .value) (numbers es ++ rest) k ∙ more .numbered;
+        numbered = at-suc (e .pattern) (e .start) (e .length) (e .value) (entryNumbers es ++ rest) k ∙ more .numbered;
       }
 
-  place-of : (es : List Entry) (e : Entry) → List·Memᴰ e es → PlaceOf es (numbers es ++ rest) e
-  unfolding numbers flatMap
+  place-of : (es : List Entry) (e : Entry) → List·Memᴰ e es → PlaceOf es (entryNumbers es ++ rest) e
+  unfolding entryNumbers flatMap
   place-of [] e m = absurd (List·Memᴰ·not-nil m)
   place-of (x ∷ es) e m = go (List·Memᴰ·cases-cons m) (place-of es e)
     where
-      go : (e ≡ x) ⊎ List·Memᴰ e es → (List·Memᴰ e es → PlaceOf es (numbers es ++ rest) e) → PlaceOf (x ∷ es) (numbers (x ∷ es) ++ rest) e
+      go : (e ≡ x) ⊎ List·Memᴰ e es → (List·Memᴰ e es → PlaceOf es (entryNumbers es ++ rest) e) → PlaceOf (x ∷ es) (entryNumbers (x ∷ es) ++ rest) e
       go c more =
           ⊎-elim
           (λ same. record { place = 0; less = omega arith; numbered = ap numbersOf (sym same) })
@@ -59,7 +59,7 @@ module _ (rest : List ℕ) where
           record {
             place = suc (w .place);
             less = omega (arith, w .less);
-            numbered = at-suc (x .pattern) (x .start) (x .length) (x .value) (numbers es ++ rest) (w .place) ∙ w .numbered;
+            numbered = at-suc (x .pattern) (x .start) (x .length) (x .value) (entryNumbers es ++ rest) (w .place) ∙ w .numbered;
           })
           c
 
@@ -72,10 +72,10 @@ record Has (pattern : ℕ) (P : ℕ → ℕ → ℕ → Type 0) (es : List Entry
 
 -- so they are in its numbers
 shown : (pattern : ℕ) (P : ℕ → ℕ → ℕ → Type 0) (es : List Entry) (rest : List ℕ) → Has pattern P es
-    → Shown pattern P (length es) (numbers es ++ rest)
+    → Shown pattern P (length es) (entryNumbers es ++ rest)
 shown pattern P es rest h = record { each = each-number; every = every-number }
   where
-    each-number : (k i m v : ℕ) → k < length es → numbersAt (numbers es ++ rest) k ≡ pattern ∷ i ∷ m ∷ v ∷ [] → P i m v
+    each-number : (k i m v : ℕ) → k < length es → numbersAt (entryNumbers es ++ rest) k ≡ pattern ∷ i ∷ m ∷ v ∷ [] → P i m v
     each-number k i m v less e =
         let w = at-place rest es k less in
         let same : numbersOf (w .one) ≡ pattern ∷ i ∷ m ∷ v ∷ [] = sym (w .numbered) ∙ e in
@@ -84,7 +84,7 @@ shown pattern P es rest h = record { each = each-number; every = every-number }
         let c : w .one .value ≡ v = ap (λ (l : List ℕ). getD l 3 0) same in
         rw (a, b, c) at (h .each-one (w .one) (w .member) (ap (λ (l : List ℕ). getD l 0 0) same))
 
-    every-number : (i m v : ℕ) → P i m v → (k : ℕ) × (k < length es) × (numbersAt (numbers es ++ rest) k ≡ pattern ∷ i ∷ m ∷ v ∷ [])
+    every-number : (i m v : ℕ) → P i m v → (k : ℕ) × (k < length es) × (numbersAt (entryNumbers es ++ rest) k ≡ pattern ∷ i ∷ m ∷ v ∷ [])
     every-number i m v p =
         let w = place-of rest es (entry pattern i m v) (h .every-one i m v p) in
         (w .place, w .less, w .numbered)
@@ -149,18 +149,21 @@ module _ (s : List ℕ) where
 
   -- the four parts of the entries
   entry-cases : (P : Type 0) (e : Entry) → List·Memᴰ e (entries s)
-      → (OfPadding e → P) → (OfTexts e → P) → (e .pattern ≡ 3 → P) → (e .pattern ≡ 4 → P) → P
+      → (OfPadding e → P) → (OfTexts e → P) → (2 < e .pattern → P) → P
   unfolding entries
-  entry-cases P e m f g h k =
+  entry-cases P e m f g h =
       ⊎-elim (λ a. f (of-padding e a))
       (λ b.
       ⊎-elim (λ a. g (of-texts e a))
       (λ b.
-      ⊎-elim (λ a. h (ap (λ (x : Entry). x .pattern) (in-when (hasZeros s) (mark 3) e a .1)))
-      (λ a. k (ap (λ (x : Entry). x .pattern) (in-when (hasSequence s) (mark 4) e a .1)))
+      ⊎-elim (λ a. h (marked 3 (in-when (hasZeros s) (mark 3) e a .1) (omega arith)))
+      (λ a. h (marked 4 (in-when (hasSequence s) (mark 4) e a .1) (omega arith)))
       (List·Memᴰ·append-cases (when (hasZeros s) (mark 3)) b))
       (List·Memᴰ·append-cases (texts s) b))
       (List·Memᴰ·append-cases (padding s) m)
+    where
+      marked : (k : ℕ) → e ≡ mark k → 2 < k → 2 < e .pattern
+      marked k is l = omega (arith, ap (λ (x : Entry). x .pattern) is)
 
   has-padding : Has 1 (Padding s) (entries s)
   unfolding entries padding
@@ -168,12 +171,11 @@ module _ (s : List ℕ) where
       record {
         each-one = λ e m one.
             entry-cases (Padding s (e .start) (e .length) (e .value)) e m
-            (λ w. rw (w .is) (run-is s (w .long)))
+            (λ w. rw (w .is) (padding-is s (w .long)))
             (λ w. absurd (omega (arith, w .numbered)))
-            (λ w. absurd (omega arith))
             (λ w. absurd (omega arith));
         every-one = λ i m v h.
-            let w = run-only s i m v h in
+            let w = padding-only s i m v h in
             let some = h .some in
             let a = w .0 in
             let mem : List·Memᴰ (entry 1 i m v) (padding s)
@@ -190,7 +192,6 @@ module _ (s : List ℕ) where
             entry-cases (Text s (e .start) (e .length) (e .value)) e m
             (λ w. absurd (omega (arith, ap (λ (x : Entry). x .pattern) (w .is))))
             (λ w. w .holds)
-            (λ w. absurd (omega arith))
             (λ w. absurd (omega arith));
         every-one = λ i m v h.
             let some = h .some in
@@ -203,8 +204,8 @@ module _ (s : List ℕ) where
       }
 
   -- the promises
-  pub shown-padding : (rest : List ℕ) → Shown 1 (Padding s) (length (entries s)) (numbers (entries s) ++ rest)
+  pub shown-padding : (rest : List ℕ) → Shown 1 (Padding s) (length (entries s)) (entryNumbers (entries s) ++ rest)
   shown-padding rest = shown 1 (Padding s) (entries s) rest has-padding
 
-  pub shown-texts : (rest : List ℕ) → Shown 2 (Text s) (length (entries s)) (numbers (entries s) ++ rest)
+  pub shown-texts : (rest : List ℕ) → Shown 2 (Text s) (length (entries s)) (entryNumbers (entries s) ++ rest)
   shown-texts rest = shown 2 (Text s) (entries s) rest has-texts

@@ -1,5 +1,7 @@
-pub mod Stretches
-pub mod Paddings
-pub mod Entries
-pub mod Laws
 pub mod Answers
+pub mod Laws
+pub mod Paddings
+pub mod Starts
+pub mod Stores
+pub mod Stretches
+pub mod Texts

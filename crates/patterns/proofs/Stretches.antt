@@ -1,24 +1,21 @@
 -- The walk from one stretch to the next, that the stretches are the maximal ones, and that octets behind that do not pass add none.
 -- Assumes nothing.
 use mathlib.Core.Path.{_≡_, refl, sym, ap, _∙_}
-use mathlib.Core.Bool.{Bool, true, false, cond, _&&_, not}
+use mathlib.Core.Bool.{Bool, true, false, cond, not, and-true, and-false}
 use mathlib.Core.List.{List, [], _∷_, _++_, List·Memᴰ, List·Memᴰ·head, List·Memᴰ·not-nil, List·Memᴰ·eq-of-singleton, List·Memᴰ·append-cases, Memᴰ·append-right}
 use mathlib.Core.Logic.{⊎-elim}
 use Prim.Native.Nat.{ℕ, zero, suc, _+_, _-_, _≤_, _<_}
+use native.Mathlib.Decide.{decLe}
 use native.Mathlib.Nat.{add-zero}
-use native.Mathlib.Numerals.{add-one}
-use native.Mathlib.Omega.{arith, by-contra}
+use native.Mathlib.Omega.{arith}
 use borrow.Author.Tests.{eqb-true, eqb-false, not-true}
 use lib.Dec.{eqb}
 use lib.ListN.{length, getD, drop, length-drop, length-append, List·getD-append}
 use lib.Seq.{getD-drop, getD-append-add, drop-append-le}
 use Rattle.octets.proofs.Tests.{both-true}
 use Rattle.runs.specs.Front.{front}
-use Rattle.runs.proofs.Front.{front-le, front-all, front-stops, front-most, front-turn, front-stop, front-no}
+use Rattle.runs.proofs.Front.{front-le, front-all, front-stops, front-turn, front-is}
 use Rattle.patterns.specs.Stretches.{Stretch, stretch, before, starts, stretchAt, stretchesFrom, stretches, Maximal}
-
-clash : {b : Bool} → b ≡ true → b ≡ false → ⊥
-clash e f = let z : _≡_ {A = ℕ} 0 1 = cc in omega arith
 
 module _ (p : ℕ → Bool) (s : List ℕ) where
   -- the stretches that start at place i or later
@@ -34,66 +31,44 @@ module _ (p : ℕ → Bool) (s : List ℕ) where
   on-step i h = let z : length s - i ≡ suc (length s - suc i) = omega arith in rw z
 
   -- none starts where the octet does not pass, or where the one before it does
-  none-at : (i : ℕ) → starts p s i ≡ false → stretchAt p s i ≡ []
-  unfolding stretchAt
-  none-at i e = rw e
-
   other-at : (i : ℕ) → p (getD s i 0) ≡ false → stretchAt p s i ≡ []
-  unfolding starts
-  other-at i e = none-at i (rw e)
+  unfolding stretchAt starts
+  other-at i e = rw e
 
   inside-at : (i : ℕ) → p (getD s i 0) ≡ true → stretchAt p s (suc i) ≡ []
-  unfolding starts before
-  inside-at i e = none-at (suc i) (go (p (getD s (suc i) 0)))
-    where
-      go : (b : Bool) → b && not (p (getD s i 0)) ≡ false
-      go true = rw e
-      go false = refl
+  unfolding stretchAt starts before
+  inside-at i e = rw (e, and-false (p (getD s (suc i) 0)))
 
-  -- one starts where the octet passes and the one before it does not
-  one-at : (i : ℕ) → p (getD s i 0) ≡ true → before p s i ≡ false → stretchAt p s i ≡ stretch i (front p (drop i s)) ∷ []
-  unfolding starts stretchAt
-  one-at i e f = rw (e, f)
+  -- where the one before it does not, one starts if the octet passes
+  free-at : (i : ℕ) → before p s i ≡ false → stretchAt p s i ≡ cond (p (getD s i 0)) (stretch i (front p (drop i s)) ∷ []) []
+  unfolding stretchAt starts
+  free-at i e = rw (e, and-true (p (getD s i 0)))
 
   on-same : (i j : ℕ) → i ≡ j → stretchesOn i ≡ stretchesOn j
   on-same i j e = rw e
 
-  -- behind an octet that passes, none starts before the octet behind the one that ends the stretch
-  skip : (m i : ℕ) → m ≡ front p (drop (suc i) s) → p (getD s i 0) ≡ true → stretchesOn (suc i) ≡ stretchesOn (suc i + (m + 1))
-  skip zero i e f = go (eqb (length s - suc i) 0) refl
+  -- places where none starts
+  skip : (m i : ℕ) → ((j : ℕ) → i ≤ j → j < i + m → stretchAt p s j ≡ []) → stretchesOn i ≡ stretchesOn (i + m)
+  skip zero i none = on-same i (i + 0) (omega arith)
+  skip (suc m) i none = by (decLe (length s) i) (skip m (suc i) (λ j a b. none j (omega arith) (omega arith)))
     where
-      go : (b : Bool) → eqb (length s - suc i) 0 ≡ b → stretchesOn (suc i) ≡ stretchesOn (suc i + (0 + 1))
-      go true g =
-          let z = eqb-true (length s - suc i) 0 g in
-          on-end (suc i) (omega arith) ∙ sym (on-end (suc i + (0 + 1)) (omega arith))
-      go false g =
-          let z = eqb-false (length s - suc i) 0 g in
-          on-step (suc i) (omega arith) ∙ rw (inside-at i f) (on-same (suc (suc i)) (suc i + (0 + 1)) (omega arith))
-  skip (suc m) i e f =
-      let le = front-le p (drop (suc i) s) in
-      let short : suc i < length s = omega (arith, length-drop (suc i) s) in
-      let here : p (getD s (suc i) 0) ≡ true
-      = rw (getD-drop (suc i) s 0 0, add-zero (suc i)) at (front-all p (drop (suc i) s) 0 (omega arith)) in
-      let next : m ≡ front p (drop (suc (suc i)) s) = rw (← (add-one (suc i))) (omega (arith, front-turn p s (suc i) short here)) in
-      on-step (suc i) short
-      ∙ rw (inside-at i f) (skip m (suc i) next here ∙ on-same (suc (suc i) + (m + 1)) (suc i + (suc m + 1)) (omega arith))
+      by : Dec (length s ≤ i) → stretchesOn (suc i) ≡ stretchesOn (suc i + m) → stretchesOn i ≡ stretchesOn (i + suc m)
+      by (yes h) more = on-end i h ∙ sym (on-end (i + suc m) (omega arith))
+      by (no h) more =
+          on-step i (omega arith) ∙ rw (none i (omega arith) (omega arith)) (more ∙ on-same (suc i + m) (i + suc m) (omega arith))
 
   -- at place i, none reaching there from before: the stretch at i, if one starts there, and those behind the octet that ends it
   pub on-turn : (i n : ℕ) → i < length s → before p s i ≡ false → n ≡ front p (drop i s)
       → stretchesOn i ≡ cond (p (getD s i 0)) (stretch i n ∷ []) [] ++ stretchesOn (i + (n + 1))
-  on-turn i n h f e = on-step i h ∙ go (p (getD s i 0)) refl
+  on-turn i n h f e =
+      on-step i h ∙ rw (free-at i f, ← e)
+      (ap (λ (ts : List Stretch). cond (p (getD s i 0)) (stretch i n ∷ []) [] ++ ts) (skip n (suc i) inside ∙ on-same (suc i + n) (i + (n + 1)) (omega arith)))
     where
-      go : (b : Bool) → p (getD s i 0) ≡ b
-          → stretchAt p s i ++ stretchesOn (suc i) ≡ cond b (stretch i n ∷ []) [] ++ stretchesOn (i + (n + 1))
-      go true g =
-          let m : front p (drop i s) ≡ suc (front p (drop (suc i) s)) = rw (add-one i) at (front-turn p s i h g) in
-          let k : n ≡ suc (front p (drop (suc i) s)) = e ∙ m in
-          rw (one-at i g f, e)
-          (ap (λ (ts : List Stretch). stretch i (front p (drop i s)) ∷ ts)
-          (skip (front p (drop (suc i) s)) i refl g ∙ on-same (suc i + (front p (drop (suc i) s) + 1)) (i + (front p (drop i s) + 1)) (omega arith)))
-      go false g =
-          let k : n ≡ 0 = e ∙ front-stop p s i h g in
-          rw (other-at i g) (on-same (suc i) (i + (n + 1)) (omega arith))
+      inside : (j : ℕ) → suc i ≤ j → j < suc i + n → stretchAt p s j ≡ []
+      inside zero a b = absurd (omega arith)
+      inside (suc j) a b =
+          let z : i + (j - i) ≡ j = omega arith in
+          inside-at j (rw (getD-drop i s (j - i) 0, z) at (front-all p (drop i s) (j - i) (omega arith)))
 
   -- behind the octet that ends a stretch none reaches there from before
   pub ended : (i n : ℕ) → n ≡ front p (drop i s) → i + (n + 1) < length s → before p s (i + (n + 1)) ≡ false
@@ -133,12 +108,10 @@ module _ (p : ℕ → Bool) (s : List ℕ) where
   -- a maximal stretch starts at its place and goes as far as octets pass
   maximal-at : (i n : ℕ) → Maximal p s i n → stretchAt p s i ≡ stretch i n ∷ []
   maximal-at i n m =
-      let len = length-drop i s in
-      let least = front-most p (drop i s) n (omega (arith, m .within)) (λ k l. rw (getD-drop i s k 0) (m .all k l)) in
-      let most : front p (drop i s) ≤ n
-      = by-contra _ _ (λ l. clash (rw (getD-drop i s n 0) at (front-all p (drop i s) n l)) (m .right (omega (arith, front-le p (drop i s))))) in
-      let e : front p (drop i s) ≡ n = omega arith in
-      one-at i (rw (add-zero i) at (m .all 0 (m .some))) (before-of i (m .left)) ∙ rw e
+      let e : front p (drop i s) ≡ n
+      = front-is p (drop i s) n (omega (arith, length-drop i s, m .within)) (λ k l. rw (getD-drop i s k 0) (m .all k l))
+      (λ l. rw (getD-drop i s n 0) (m .right (omega (arith, length-drop i s)))) in
+      free-at i (before-of i (m .left)) ∙ rw (rw (add-zero i) at (m .all 0 (m .some)), e)
 
   each-at : (i : ℕ) (t : Stretch) → i < length s → List·Memᴰ t (stretchAt p s i) → Maximal p s (t .start) (t .length)
   unfolding stretchAt
@@ -176,16 +149,10 @@ module _ (p : ℕ → Bool) (s : List ℕ) where
   every i n m = every-from (length s) 0 i n (omega arith) (omega (arith, m .some, m .within)) m
 
 -- octets behind others, none of which passes, add no stretch
-
-front-none : (p : ℕ → Bool) (s : List ℕ) → ((j : ℕ) → j < length s → p (getD s j 0) ≡ false) → front p s ≡ 0
-unfolding front
-front-none p [] none = refl
-front-none p (x ∷ s) none = front-no p x s (none 0 (omega arith))
-
 module _ (p : ℕ → Bool) (a b : List ℕ) (none : (j : ℕ) → j < length b → p (getD b j 0) ≡ false) where
   front-past : (x : List ℕ) → front p (x ++ b) ≡ front p x
   unfolding front
-  front-past [] = front-none p b none
+  front-past [] = front-is p b 0 (omega arith) (λ k l. absurd (omega arith)) (none 0)
   front-past (y ∷ x) = rw (front-past x)
 
   before-past : (i : ℕ) → i < length a → before p (a ++ b) i ≡ before p a i
@@ -197,23 +164,17 @@ module _ (p : ℕ → Bool) (a b : List ℕ) (none : (j : ℕ) → j < length b 
   unfolding stretchAt starts
   at-past i h = rw (List·getD-append a b 0 i h, before-past i h, drop-append-le i a b (omega arith), front-past (drop i a))
 
-  -- from place j of b on
-  none-past : (n i j : ℕ) → i ≡ length a + j → j + n ≤ length b → stretchesFrom p (a ++ b) i n ≡ []
-  unfolding stretchesFrom
-  none-past zero i j e h = refl
-  none-past (suc n) i j e h =
-      let there : p (getD (a ++ b) i 0) ≡ false = rw (e, getD-append-add a b j 0) (none j (omega arith)) in
-      rw (other-at p (a ++ b) i there) (none-past n (suc i) (suc j) (omega arith) (omega arith))
+  on-past : (n i : ℕ) → i + n ≡ length a → stretchesOn p (a ++ b) i ≡ stretchesOn p a i
+  on-past zero i h =
+      skip p (a ++ b) (length b) i
+      (λ j l m.
+      let z : length a + (j - i) ≡ j = omega arith in
+      other-at p (a ++ b) j (rw (← z, getD-append-add a b (j - i) 0) (none (j - i) (omega arith))))
+      ∙ on-end p (a ++ b) (i + length b) (omega (arith, length-append a b))
+      ∙ sym (on-end p a i (omega arith))
+  on-past (suc n) i h =
+      on-step p (a ++ b) i (omega (arith, length-append a b))
+      ∙ rw (at-past i (omega arith), on-past n (suc i) (omega arith)) (sym (on-step p a i (omega arith)))
 
-  from-past : (n i : ℕ) → i + n ≡ length a → stretchesFrom p (a ++ b) i (n + length b) ≡ stretchesFrom p a i n
-  unfolding stretchesFrom
-  from-past zero i h =
-      let z : 0 + length b ≡ length b = omega arith in
-      rw z (none-past (length b) i 0 (omega arith) (omega arith))
-  from-past (suc n) i h =
-      let z : suc n + length b ≡ suc (n + length b) = omega arith in
-      rw (z, at-past i (omega arith), from-past n (suc i) (omega arith))
-
-  pub stretches-past : stretches p (a ++ b) ≡ stretches p a
-  unfolding stretches
-  stretches-past = rw (length-append a b) (from-past (length a) 0 (omega arith))
+  pub stretches-past : stretchesOn p (a ++ b) 0 ≡ stretchesOn p a 0
+  stretches-past = on-past (length a) 0 (omega arith)

@@ -2,11 +2,11 @@
 -- Assumes nothing.
 use Prim.Native.Nat.{ℕ, _-_}
 use mathlib.Core.Bool.{Bool, true, false, cond, _&&_}
-use mathlib.Core.List.{List, [], _∷_, _++_, reverse, flatMap}
+use mathlib.Core.List.{List, [], _∷_, _++_, flatMap}
 use lib.Dec.{leb, eqb}
 use lib.ListN.{length, getD, drop}
 use Rattle.octets.specs.Range.{within}
-use Rattle.runs.specs.Front.{is, front, equalInFront}
+use Rattle.runs.specs.Front.{is, front, equalAtEnd}
 use Rattle.patterns.specs.Stretches.{Stretch, stretches}
 use Rattle.patterns.specs.declared.Entry.{Entry}
 
@@ -39,10 +39,14 @@ abbrev pub last : List ℕ → ℕ
 last s = getD s (length s - 1) 0
 
 -- how many octets at the end, one behind another and without index 0, equal the last one
-unfoldable pub paddingLength : List ℕ → ℕ
-paddingLength s = equalInFront (reverse (drop 1 s))
+unfoldable pub endLength : List ℕ → ℕ
+endLength s = equalAtEnd (drop 1 s)
 
--- they are padding if they are at least 4
+-- how many of them are padding: all, if they are at least 4
+unfoldable pub paddingLength : List ℕ → ℕ
+paddingLength s = cond (leb 4 (endLength s)) (endLength s) 0
+
+-- the padding, if there is one
 unfoldable pub padding : List ℕ → List Entry
 padding s = when (leb 4 (paddingLength s)) (entry paddingPattern (length s - paddingLength s) (paddingLength s) (last s))
 
@@ -58,13 +62,9 @@ text t = when (leb 4 (t .length)) (entry textPattern (t .start) (t .length) 0)
 unfoldable pub texts : List ℕ → List Entry
 texts s = flatMap text (stretches printable s)
 
--- how many octets stand before the padding; all, if there is none
-unfoldable pub nonPaddingLength : List ℕ → ℕ
-nonPaddingLength s = cond (leb 4 (paddingLength s)) (length s - paddingLength s) (length s)
-
 -- the octets before the padding are at least 8 (so the frame has at least 8), and all of them are 00
 unfoldable pub hasZeros : List ℕ → Bool
-hasZeros s = leb 8 (nonPaddingLength s) && leb (nonPaddingLength s) (front (is 0) s)
+hasZeros s = leb 8 (length s - paddingLength s) && leb (length s - paddingLength s) (front (is 0) s)
 
 -- s starts with the octets of t
 unfoldable pub startsWith : List ℕ → List ℕ → Bool
@@ -73,7 +73,7 @@ startsWith [] (y ∷ t) = false
 startsWith (x ∷ s) (y ∷ t) = eqb x y && startsWith s t
 
 -- 00 to 07 in front
-unfoldable pub hasSequence : List ℕ → Bool
+abbrev pub hasSequence : List ℕ → Bool
 hasSequence s = startsWith s (0 ∷ 1 ∷ 2 ∷ 3 ∷ 4 ∷ 5 ∷ 6 ∷ 7 ∷ [])
 
 -- zeros and the sequence have no start, length or value
@@ -89,5 +89,5 @@ abbrev pub numbersOf : Entry → List ℕ
 numbersOf e = e .pattern ∷ e .start ∷ e .length ∷ e .value ∷ []
 
 -- the numbers of some entries, four for each
-unfoldable pub numbers : List Entry → List ℕ
-numbers es = flatMap numbersOf es
+unfoldable pub entryNumbers : List Entry → List ℕ
+entryNumbers es = flatMap numbersOf es

@@ -6,8 +6,8 @@ use mathlib.Core.List.{List, [], _∷_}
 use lib.ListN.{length, getD, take, drop}
 use Rattle.patterns.specs.Stretches.{Maximal}
 use Rattle.patterns.specs.Entries.{printable}
-use Rattle.patterns.specs.declared.PatternsDetected.{PatternsDetected}
-use Rattle.patterns.specs.declared.PatternsDetected.the-variants.{Count}
+use Rattle.octets.specs.declared.CountResult.{CountResult}
+use Rattle.octets.specs.declared.CountResult.the-variants.{Count}
 
 -- the numbers of entry k of a list
 abbrev pub numbersAt : List ℕ → ℕ → List ℕ
@@ -19,7 +19,7 @@ pub record Shown (pattern : ℕ) (P : ℕ → ℕ → ℕ → Type 0) (n : ℕ) 
   pub every : (i m v : ℕ) → P i m v → (k : ℕ) × (k < n) × (numbersAt l k ≡ pattern ∷ i ∷ m ∷ v ∷ [])
 
 -- so it is where the answer is a count
-abbrev pub Shows : ℕ → (ℕ → ℕ → ℕ → Type 0) → PatternsDetected → List ℕ → Type 0
+abbrev pub Shows : ℕ → (ℕ → ℕ → ℕ → Type 0) → CountResult → List ℕ → Type 0
 Shows pattern P answer l = (n : ℕ) → answer ≡ Count n → Shown pattern P n l
 
 -- a padding: at least 4 octets v up to the end, index 0 not among them, which the octet before, if not at index 0, does not lengthen

@@ -1,14 +1,29 @@
--- What the private functions leave in the lent list.
+-- What the private functions take, and leave in the lent list.
 -- Assumes nothing.
-use Prim.Native.Nat.{ℕ, _+_, _*_}
+use Prim.Native.Nat.{ℕ, _+_, _-_, _*_, _≤_}
 use mathlib.Core.Path.{_≡_}
+use mathlib.Core.Bool.{Bool}
 use mathlib.Core.List.{List}
-use lib.ListN.{length}
-use lib.Seq.{sets}
-use Rattle.patterns.specs.Entries.{numbers}
+use lib.ListN.{length, take}
+use Rattle.octets.specs.Put.{Put}
+use Rattle.patterns.specs.Entries.{paddingLength, texts, hasZeros, hasSequence, entryNumbers}
 use Rattle.patterns.specs.declared.Entry.{Entry}
 
--- entries stored from place `at` of a list on: the place behind them, and the list afterwards
-pub record Wrote (at : ℕ) (es : List Entry) (l : List ℕ) (next : ℕ) (after : List ℕ) : Type 0 where
-  pub place : next ≡ at + 4 * length es
-  pub list : after ≡ sets l at (numbers es)
+-- the padding's length, which is within the frame
+abbrev pub IsPadding : List ℕ → ℕ → Type 0
+IsPadding s n = (n ≡ paddingLength s) × (n ≤ length s - 1)
+
+-- what was seen of a frame before its texts: it is short enough, the padding's length, how many octets in front have all
+-- texts, zeros and sequence
+pub record Seen (s : List ℕ) (n end : ℕ) (zeros sequence : Bool) : Type 0 where
+  pub short : length s ≤ 65535
+  pub is-padding : IsPadding s n
+  pub inside : end ≤ length s
+  pub has-texts : texts (take end s) ≡ texts s
+  pub are-zeros : zeros ≡ hasZeros s
+  pub is-sequence : sequence ≡ hasSequence s
+
+-- entries behind the first `at` of a list: how many there are with them, and the list afterwards, if all fit
+pub record PutEntries (es : List Entry) (before : List ℕ) (at : ℕ) (after : List ℕ) (behind : ℕ) : Type 0 where
+  pub count : behind ≡ at + length es
+  pub put : 4 * behind ≤ length before → Put (entryNumbers es) before (4 * at) after (4 * behind)

@@ -1,17 +1,37 @@
 // What the answers of all layers share.
-use crate::text;
 use datalink::DataLinkError;
-use octets::Written;
+use octets::CountResult;
+use replay_cases::print;
+ghost use mathlib.Core.Path.{_≡_};
+ghost use lib.ListN.{length};
 
 // What stands in a lent output before the call, and how many octets behind it are looked at too.
 pub(crate) const BEFORE: u8 = 0xA5;
 
-pub(crate) const BEHIND: usize = 16;
+const BEHIND: usize = 16;
 
-// Prints a number as two octets.
-pub(crate) fn print_number(number: u16) {
-    let octets = [(number / 256) as u8, (number % 256) as u8];
-    text::print_octets(&octets);
+// The most octets that an answer shows of one thing.
+const MOST: usize = 2000;
+
+// Room for the longest input or output of a list. The `ensures` gives what lending it as a slice needs.
+pub(crate) fn space(octet: u8) -> [u8; 65600]
+    ensures { λ r. ⌜ 65600 ≡ length r ⌝ }
+{
+    [octet; 65600]
+}
+
+// Prints a space and octets, or the first of very many.
+pub(crate) fn print_octets(octets: &[u8]) {
+    print::letters(b" ");
+    print::octets(octets, MOST);
+}
+
+// How many octets an answer shows of an output of that size, and of the octets behind it.
+fn shown(size: usize) -> usize {
+    if MOST - BEHIND < size {
+        return MOST;
+    }
+    size + BEHIND
 }
 
 // The letter of the Rust's error for a question; N where it has none.
@@ -25,22 +45,15 @@ fn letter(question: u8) -> u8 {
 
 // Prints E, the letter of the Rust's error and the question.
 pub(crate) fn print_refusal(question: u8) {
-    let letters = [b'E', letter(question)];
-    let octets = [question];
-    text::print(&letters);
-    text::print_octets(&octets);
+    print::labelled(&[b'E', letter(question)], question as usize, 2);
 }
 
-// Prints F and a count below 65,536.
-fn print_count(count: usize) {
-    text::print(b"F");
-    print_number((count % 65536) as u16);
-}
-
-// Prints what a writer answered: the count, or the refusal.
-pub(crate) fn print_written(written: Written) {
+// Prints what a writer answered, the count or the refusal, then its output of that size and some octets behind it.
+pub(crate) fn print_written(written: CountResult, out: &[u8; 65600], size: usize) {
     match written {
-        Written::Count(count) => print_count(count),
-        Written::Refused(question) => print_refusal(question),
+        CountResult::Count(count) => print::labelled(b"F", count, 4),
+        CountResult::Refused(question) => print_refusal(question),
     }
+    print::letters(b" ");
+    print::octets(out, shown(size));
 }

@@ -1,89 +1,54 @@
 // The cases of BVLC messages.
 use crate::answers;
-use crate::answers::BEFORE;
-use crate::answers::BEHIND;
-use crate::text;
-use bip::BvlcDecoded;
-use bip::BvlcFunction;
-use bip::BvlcHeader;
-use bip::BvlcMessage;
-use bip::FunctionRead;
-ghost use Prim.Native.Nat.{_<_};
+use bip_header::BvlcDecoded;
+use bip_header::BvlcFunction;
+use bip_header::BvlcHeader;
+use bip_header::FunctionRead;
+use bip_message::BvlcMessage;
+use octets::CountResult;
+use replay_cases::print;
 
 // Reading of the header in front.
 pub(crate) fn header(input: &[u8]) {
-    match bip::decode(input) {
+    match bip_header::decode(input) {
         BvlcDecoded::Header(header) => print_header(header),
         BvlcDecoded::Refused(question) => answers::print_refusal(question),
     }
 }
 
-// Prints F and the octets that a header holds.
+// Prints F and the fields of a header.
 fn print_header(header: BvlcHeader) {
-    let fields = fields_of(header);
-    text::print(b"F");
-    text::print_octets(&fields);
-}
-
-// The octets that `BvlcHeader` holds.
-fn fields_of(header: BvlcHeader) -> [u8; 4] {
     let function = header.function;
-    let n = header.length;
-    [
-        header.bvlc_type,
-        function.to_u8(),
-        (n / 256) as u8,
-        (n % 256) as u8,
-    ]
+    let octets = [header.bvlc_type, function.to_u8()];
+    print::letters(b"F");
+    answers::print_octets(&octets);
+    print::digits(header.length as usize, 4);
 }
 
 // What a message carries, then its NPDU.
 pub(crate) fn npdu(input: &[u8]) {
-    print_message(bip::process_bvlc_message(input));
-    text::print_octets(bip::npdu(input));
-}
-
-// Prints what a message carries.
-fn print_message(message: BvlcMessage) {
-    match message {
-        BvlcMessage::Npdu(_) => text::print(b"N"),
-        BvlcMessage::TimeToLive(seconds) => print_time(seconds),
-        BvlcMessage::NoNpdu => text::print(b"O"),
+    match bip_message::process_bvlc_message(input) {
+        BvlcMessage::Npdu(_) => print::letters(b"N"),
+        BvlcMessage::TimeToLive(seconds) => print::labelled(b"T", seconds as usize, 4),
+        BvlcMessage::NoNpdu => print::letters(b"O"),
         BvlcMessage::Refused(question) => answers::print_refusal(question),
     }
+    answers::print_octets(bip_message::npdu(input));
 }
 
-// Prints T and a time to live.
-fn print_time(seconds: u16) {
-    text::print(b"T");
-    answers::print_number(seconds);
-}
-
-// Writing of a header: function and length, into an output of that size.
-pub(crate) fn writing(input: &[u8], size: u16) {
+// Writes a header: function and length.
+pub(crate) fn write(input: &[u8], out: &mut [u8]) -> CountResult {
     if input.len() < 3 {
-        return;
+        return CountResult::Refused(0);
     }
     let length = octets::number(input[1], input[2]);
-    match BvlcFunction::try_from(input[0]) {
-        FunctionRead::Known(function) => write(function, length, size),
-        FunctionRead::Unknown => text::print(b"no function"),
-    }
+    write_header(BvlcFunction::try_from(input[0]), length, out)
 }
 
-// Writes a header of that function and length.
-fn write(function: BvlcFunction, length: u16, size: u16) {
-    let mut out = text::space(BEFORE);
-    written(function, length, &mut out, size as usize);
-}
-
-// Writes into the front of `out`: the count or the refusal, then the output and some octets behind it.
-fn written(function: BvlcFunction, length: u16, out: &mut [u8], size: usize)
-    requires { ⌜ size < 65536 ⌝ }
-{
-    if out.len() < size + BEHIND {
-        return;
+// Writes a header of a function that is known.
+fn write_header(read: FunctionRead, length: u16, out: &mut [u8]) -> CountResult {
+    match read {
+        FunctionRead::Known(function) => bip_header::encode(function, length, out),
+        FunctionRead::Unknown => CountResult::Refused(0),
     }
-    answers::print_written(bip::encode(function, length, &mut out[..size]));
-    text::print_octets(&out[..size + BEHIND]);
 }

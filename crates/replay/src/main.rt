@@ -5,26 +5,15 @@ mod bip_cases;
 mod cases;
 mod ethernet_cases;
 mod mstp_cases;
-mod text;
 
-// Answers the next case, or says that there is none.
-fn next() -> bool {
-    let mut line = io::buffer();
-    let n = text::read_line(&mut line);
-    if n == 0 {
-        return false;
-    }
-    cases::answer(&line[..n]);
-    true
-}
+use replay_cases::input;
 
-// At most a million cases.
 fn main() {
-    let mut left: usize = 1000000;
-    while 0 < left {
-        if !next() {
+    for _ in 0..replay_cases::MOST_CASES {
+        let kind = input::letter();
+        if kind == 0 {
             return;
         }
-        left -= 1;
+        cases::answer(kind);
     }
 }

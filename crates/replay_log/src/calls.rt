@@ -1,17 +1,26 @@
 // The calls: tools/log_model/calls.py says what their lines hold.
 use crate::answers;
-use crate::input;
+use replay_cases::input;
+use replay_cases::print;
 ghost use mathlib.Core.Path.{_≡_};
 ghost use lib.ListN.{length};
+ghost use Rattle.io.specs.Counts.{Counts};
 
 // Answers the call whose letter was read.
 pub(crate) fn answer(letter: u8, buffer: &mut [u8]) {
+    answer_to(letter, buffer);
+    input::letter();
+    print::letters(b"\n");
+}
+
+// Answers a call by its letter.
+fn answer_to(letter: u8, buffer: &mut [u8]) {
     match letter {
         b'A' => append(buffer),
         b'R' => read(buffer, input::long_number()),
-        b'C' => answers::print_counted(log::count_records(buffer, input::long_number())),
-        b'B' => answers::print_octets(buffer),
-        _ => answers::print(b"no call"),
+        b'C' => answers::print_counted(log_reading::count_records(buffer, input::long_number())),
+        b'B' => print::octets(buffer, buffer.len()),
+        _ => print::letters(b"no call"),
     }
 }
 
@@ -22,16 +31,37 @@ fn space() -> [u8; 1520]
     [0; 1520]
 }
 
+// Reads a count and a first octet, puts so many octets counting up from it, 00 behind FF, at the front of `out`, as far
+// as there is room, and answers how many there are.
+fn payload(out: &mut [u8]) -> usize
+    ensures { λ r. ⌜ Counts r (now (out .exit)) ⌝ }
+{
+    let count = input::number();
+    let first = input::octet();
+    let mut n = 0;
+    while n < out.len() {
+        if n == count {
+            return n;
+        }
+        out[n] = ((first as usize + n) % 256) as u8;
+        n += 1;
+    }
+    n
+}
+
 // Appends a record.
 fn append(buffer: &mut [u8]) {
     let used = input::long_number();
     let kind = input::octet();
-    let mut payload = space();
-    let n = input::payload(&mut payload);
-    answers::print_appended(log::append(buffer, used, kind, &payload[..n]));
+    let mut octets = space();
+    let n = payload(&mut octets);
+    print::count(b"U", log_append::append(buffer, used, kind, &octets[..n]));
 }
 
 // Reads the record that ends at an end, and its payload.
 fn read(log: &[u8], end: usize) {
-    answers::print_read(log::read_record(log, end), log::record_payload(log, end));
+    answers::print_read(
+        log_record::read_record(log, end),
+        log_record::record_payload(log, end),
+    );
 }

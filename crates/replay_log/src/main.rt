@@ -2,8 +2,8 @@
 // standard output gets the answers. The file `stdout` beside it has that model's: docs/REPLAY.md.
 mod answers;
 mod calls;
-mod input;
 
+use replay_cases::input;
 ghost use mathlib.Core.Path.{_≡_};
 ghost use lib.ListN.{length};
 
@@ -14,28 +14,14 @@ fn space() -> [u8; 4096]
     [0xA5; 4096]
 }
 
-// Answers the next call, or says that there is none.
-fn next(buffer: &mut [u8]) -> bool {
-    let mut letter = [0u8; 1];
-    let mut end = [0u8; 1];
-    if input::read(&mut letter) < 1 {
-        return false;
-    }
-    calls::answer(letter[0], buffer);
-    input::read(&mut end);
-    answers::print(b"\n");
-    true
-}
-
-// At most a million calls.
 fn main() {
     let mut octets = space();
     let buffer: &mut [u8] = &mut octets;
-    let mut left: usize = 1000000;
-    while 0 < left {
-        if !next(buffer) {
+    for _ in 0..replay_cases::MOST_CASES {
+        let letter = input::letter();
+        if letter == 0 {
             return;
         }
-        left -= 1;
+        calls::answer(letter, buffer);
     }
 }

@@ -1,8 +1,11 @@
 // The cases: tools/finder_model/main.py says what their lines hold, and what each kind asks.
 use crate::answers;
-use crate::input;
+use crate::pieces;
 use crc::CheckRule;
-use finder::FrameFound;
+use replay_cases::input;
+use replay_cases::print;
+use replay_cases::spelling;
+use run_finder::FrameFound;
 ghost use Prim.Native.Nat.{_≤_};
 ghost use mathlib.Core.Path.{_≡_};
 ghost use lib.ListN.{length};
@@ -12,32 +15,34 @@ const BEFORE: u32 = 0xA5A5A5A5;
 
 const BEHIND: usize = 4;
 
-// The rule that a letter names.
-fn rule_of(letter: u8) -> CheckRule {
-    if letter == b'g' {
-        return CheckRule::AnnexG;
-    }
-    CheckRule::House
+// The most steps of the reader that are shown.
+const MOST_STEPS: usize = 65536;
+
+// Room for the longest run of the list. The `ensures` gives what lending it as a slice needs.
+fn run_space() -> [u8; 65600]
+    ensures { λ r. ⌜ 65600 ≡ length r ⌝ }
+{
+    [0; 65600]
 }
 
-// Answers the case whose two letters were read, under the rule that the second names.
-pub(crate) fn answer(kind: u8, letter: u8) {
+// Answers a case of that kind: a letter for the rule, a long number, and then the run.
+pub(crate) fn answer(kind: u8) {
+    let rule = spelling::rule_of(input::letter());
     let number = input::long_number();
-    let mut octets = input::space();
-    let mut end = [0u8; 1];
-    let n = input::run(&mut octets);
-    input::read(&mut end);
-    answer_to(kind, rule_of(letter), &octets[..n], number);
-    answers::print(b"\n");
+    let mut octets = run_space();
+    let n = pieces::run(&mut octets);
+    input::letter();
+    answer_to(kind, rule, &octets[..n], number);
+    print::letters(b"\n");
 }
 
 // Answers a case by its kind.
 fn answer_to(kind: u8, rule: CheckRule, run: &[u8], number: usize) {
     match kind {
-        b'F' => answers::print_found(finder::find_frame(rule, run, number)),
+        b'F' => answers::print_found(run_finder::find_frame(rule, run, number)),
         b'N' => steps(rule, run, number),
         b'R' => whole(rule, run, number),
-        _ => answers::print(b"no kind"),
+        _ => print::letters(b"no kind"),
     }
 }
 
@@ -50,26 +55,24 @@ fn is_report(found: FrameFound) -> bool {
     }
 }
 
-// The reader's steps from a place, until one is no report; then the place where it stands. At most 65,536 steps.
+// The reader's steps from a place, until one is no report; then the place where it stands.
 fn steps(rule: CheckRule, run: &[u8], place: usize) {
     let mut at = place;
-    let mut left: usize = 65536;
-    while 0 < left {
-        let step = frame_reader::next_from(rule, run, at);
+    for _ in 0..MOST_STEPS {
+        let step = run_reader::step_at(rule, run, at);
         let found = step.found;
         at = step.next;
         answers::print_found(found);
         if !is_report(found) {
-            answers::print_number(at);
+            print::number(at, 4);
             return;
         }
-        answers::print(b" ");
-        left -= 1;
+        print::letters(b" ");
     }
 }
 
 // Room for the longest list. The `ensures` gives what lending it as a slice needs.
-fn space() -> [u32; 16400]
+fn list_space() -> [u32; 16400]
     ensures { λ r. ⌜ 16400 ≡ length r ⌝ }
 {
     [BEFORE; 16400]
@@ -80,23 +83,19 @@ fn whole(rule: CheckRule, run: &[u8], size: usize) {
     if 16384 < size {
         return;
     }
-    let mut list = space();
-    answers::print_read(reading::count_frames(rule, run));
-    answers::print(b" ");
+    let mut list = list_space();
+    print::count(b"F", run_reading::count_frames(rule, run));
+    print::letters(b" ");
     fill(rule, run, &mut list, size);
-    show(&list, size + BEHIND);
+    print::list(&list, size + BEHIND, 4);
 }
 
 // The whole reading into the front of a list.
 fn fill(rule: CheckRule, run: &[u8], list: &mut [u32], size: usize)
     requires { ⌜ size ≤ length (now list) ⌝ }
 {
-    answers::print_read(reading::read_frames(rule, run, &mut list[..size]));
-}
-
-// Prints the front of a list.
-fn show(list: &[u32], size: usize)
-    requires { ⌜ size ≤ length (now list) ⌝ }
-{
-    answers::print_list(&list[..size]);
+    print::count(
+        b"F",
+        run_reading::read_frames(rule, run, &mut list[0..size]),
+    );
 }

@@ -2,25 +2,16 @@
 // prints them, and standard output gets the answers. The file `stdout` beside it has that model's: docs/REPLAY.md.
 mod answers;
 mod cases;
-mod input;
+mod pieces;
 
-// Answers the next case, or says that there is none.
-fn next() -> bool {
-    let mut letters = [0u8; 2];
-    if input::read(&mut letters) < 2 {
-        return false;
-    }
-    cases::answer(letters[0], letters[1]);
-    true
-}
+use replay_cases::input;
 
-// At most a million cases.
 fn main() {
-    let mut left: usize = 1000000;
-    while 0 < left {
-        if !next() {
+    for _ in 0..replay_cases::MOST_CASES {
+        let kind = input::letter();
+        if kind == 0 {
             return;
         }
-        left -= 1;
+        cases::answer(kind);
     }
 }

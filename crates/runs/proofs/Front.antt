@@ -51,7 +51,7 @@ front-alike p q e (x ∷ s) = rw (e x, front-alike p q e s)
 
 module _ (p : ℕ → Bool) where
   -- the first octet passes, or does not
-  front-yes : (x : ℕ) (s : List ℕ) → p x ≡ true → front p (x ∷ s) ≡ suc (front p s)
+  pub front-yes : (x : ℕ) (s : List ℕ) → p x ≡ true → front p (x ∷ s) ≡ suc (front p s)
   unfolding front
   front-yes x s e = rw e
 
@@ -99,6 +99,14 @@ module _ (p : ℕ → Bool) where
   front-most (x ∷ s) (suc n) h all =
       let e = front-yes x s (all 0 (omega arith)) in
       let m = front-most s n (omega arith) (λ k l. all (suc k) (omega arith)) in
+      omega arith
+
+  -- and no more, where the one behind them does not
+  pub front-is : (s : List ℕ) (n : ℕ) → n ≤ length s → ((k : ℕ) → k < n → p (getD s k 0) ≡ true) → (n < length s → p (getD s n 0) ≡ false)
+      → front p s ≡ n
+  front-is s n h all stop =
+      let least = front-most s n h all in
+      let most = by-contra (front p s) n (λ l. let e = front-all s n l in let f = stop (omega (arith, front-le s)) in let z : _≡_ {A = ℕ} 0 1 = cc in omega arith) in
       omega arith
 
   -- from place j on: one that passes, one that does not, the end

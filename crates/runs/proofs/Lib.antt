@@ -1,3 +1,4 @@
+pub mod Back
 pub mod Count
 pub mod Front
 pub mod Longest

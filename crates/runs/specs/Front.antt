@@ -2,7 +2,7 @@
 -- Assumes nothing.
 use Prim.Native.Nat.{ℕ, suc, _+_}
 use mathlib.Core.Bool.{Bool, cond}
-use mathlib.Core.List.{List, [], _∷_}
+use mathlib.Core.List.{List, [], _∷_, reverse}
 use lib.Dec.{eqb}
 use lib.ListN.{getD}
 
@@ -18,6 +18,10 @@ front p (x ∷ s) = cond (p x) (suc (front p s)) 0
 -- how many octets in front equal the first
 abbrev pub equalInFront : List ℕ → ℕ
 equalInFront s = front (is (getD s 0 0)) s
+
+-- how many octets at the end equal the last
+abbrev pub equalAtEnd : List ℕ → ℕ
+equalAtEnd s = equalInFront (reverse s)
 
 -- how many octets pass the test
 unfoldable pub count : (ℕ → Bool) → List ℕ → ℕ

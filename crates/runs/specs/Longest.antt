@@ -1,31 +1,34 @@
 -- The longest run of one value, the earliest of equals, and what it is.
 -- Assumes nothing.
 use mathlib.Core.Path.{_≡_}
-use Prim.Native.Nat.{ℕ, suc, _+_, _≤_, _<_}
-use mathlib.Core.List.{List, [], _∷_}
+use Prim.Native.Nat.{ℕ, zero, suc, _+_, _-_, _≤_, _<_}
+use mathlib.Core.List.{List, reverse}
 use mathlib.Core.Bool.{cond}
 use lib.Dec.{ltb}
-use lib.ListN.{length, getD}
-use Rattle.runs.specs.Front.{equalInFront}
+use lib.ListN.{length, getD, take}
+use Rattle.runs.specs.Front.{equalAtEnd}
 use Rattle.runs.specs.declared.Run.{Run}
 
 -- n octets x from place p on
 abbrev pub run : ℕ → ℕ → ℕ → Run
 run p x n = record { start = p; octet = x; length = n }
 
+-- the run that some octets end with
+unfoldable pub lastRun : List ℕ → Run
+lastRun s = run (length s - equalAtEnd s) (getD (reverse s) 0 0) (equalAtEnd s)
+
 -- the longer of two, and the first where they are equally long
 unfoldable pub longer : Run → Run → Run
 longer a b = cond (ltb (a .length) (b .length)) b a
 
--- of the runs that start at each place of s, whose first octet is at place p, the longest
-unfoldable pub longestFrom : ℕ → List ℕ → Run
-unfolding longer
-longestFrom p [] = run 0 0 0
-longestFrom p (x ∷ s) = longer (run p x (equalInFront (x ∷ s))) (longestFrom (suc p) s)
+-- of the runs that end within the first n octets of s, the longest
+unfoldable pub longestWithin : ℕ → List ℕ → Run
+longestWithin zero s = run 0 0 0
+longestWithin (suc n) s = longer (longestWithin n s) (lastRun (take (suc n) s))
 
 -- the longest run
 abbrev pub longest : List ℕ → Run
-longest s = longestFrom 0 s
+longest s = longestWithin (length s) s
 
 -- n octets of one value from place i on
 abbrev pub OneValue : List ℕ → ℕ → ℕ → Type 0

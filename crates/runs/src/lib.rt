@@ -6,9 +6,6 @@ ghost use Rattle.octets.specs.Range.{within};
 ghost use Rattle.runs.specs.Front.{is, front};
 ghost use Rattle.runs.specs.Longest.{longest, Longest, OnlyLongest};
 
-// Most octets that statistics, patterns and the finder take: question 31.
-pub const MAX_OCTETS: usize = 65535;
-
 // A run of one value: its first place, the value, and how many octets it has.
 pub struct Run {
     pub start: usize,

@@ -1,18 +1,19 @@
 -- What the statistics are, and what the answer promises of them.
 -- Assumes nothing.
 use mathlib.Core.Path.{_≡_, refl, ap, _∙_}
-use Prim.Native.Nat.{ℕ, _≤_, _<_}
+use Prim.Native.Nat.{ℕ}
 use native.Mathlib.Omega.{arith}
+use mathlib.Core.Bool.{true, false}
 use mathlib.Core.List.{List, []}
 use lib.ListN.{length, getD}
-use borrow.Author.Tests.{le-leb, lt-leb}
+use Rattle.octets.specs.Size.{atMost65535}
 use Rattle.octets.proofs.Parts.{Octets}
 use Rattle.octets.proofs.Questions.{passed, failed, ended, refusal, acceptance}
 use Rattle.runs.specs.Longest.{longest}
 use Rattle.runs.specs.declared.Run.{Run}
 use Rattle.runs.proofs.Longest.{longest-law}
 use Rattle.statistics.specs.declared.FrameStatistics.{FrameStatistics}
-use Rattle.statistics.specs.declared.StatisticsResult.the-variants.{Calculated, Refused}
+use Rattle.octets.specs.declared.AcceptResult.the-variants.{Accepted, Refused}
 use Rattle.statistics.specs.declared.StatisticsAnswer.{StatisticsAnswer}
 use Rattle.statistics.specs.Statistics.{byteDistribution, nullBytes, highBytes, longestRun, frameStatistics}
 use Rattle.statistics.specs.Statistics.{noStatistics, calculated, refused, statisticsQuestion, statistics}
@@ -43,14 +44,14 @@ module _ (s : List ℕ) where
       × (Calculates (AllCounted s) r × (Calculates NullCounted r × (Calculates HighCounted r × Calculates (LongestStands s) r)))
 
   -- more octets than question 31 takes
-  pub statistics-refused : 65535 < length s → {t : FrameStatistics} → t ≡ noStatistics → Answered (record { result = Refused 31; statistics = t })
+  pub statistics-refused : atMost65535 (length s) ≡ false → {t : FrameStatistics} → t ≡ noStatistics → Answered (record { result = Refused 31; statistics = t })
   unfolding statistics statisticsQuestion
   statistics-refused h e = (
-    rw e (refusal refused (calculated (frameStatistics s)) (failed 31 [] (lt-leb (length s) 65535 h)) (λ z. omega arith)),
+    rw e (refusal refused (calculated (frameStatistics s)) (failed 31 [] h) (λ z. omega arith)),
     (none, (none, (none, none))),
   )
     where
-      none : {A : Type 0} → Refused 31 ≡ Calculated → A
+      none : {A : Type 0} → Refused 31 ≡ Accepted → A
       none e = let z : _≡_ {A = ℕ} 0 1 = cc in absurd (omega arith)
 
   module _ (octets : Octets s) where
@@ -60,10 +61,10 @@ module _ (s : List ℕ) where
     holds = (all-total s octets, (distribution-at s 0 (omega arith), (high-total s octets, (longest s .start, longest-law s))))
 
     -- no more than it takes
-    pub statistics-calculated : length s ≤ 65535 → {t : FrameStatistics} → t ≡ frameStatistics s → Answered (calculated t)
+    pub statistics-calculated : atMost65535 (length s) ≡ true → {t : FrameStatistics} → t ≡ frameStatistics s → Answered (calculated t)
     unfolding statistics statisticsQuestion
     statistics-calculated h {t} e =
         let l : Holds t = rw e holds in (
-          ap calculated e ∙ acceptance refused (calculated (frameStatistics s)) (passed 31 [] (le-leb (length s) 65535 h) ended) refl,
+          ap calculated e ∙ acceptance refused (calculated (frameStatistics s)) (passed 31 [] h ended) refl,
           (λ y. l .0, (λ y. l .1 .0, (λ y. l .1 .1 .0, λ y. l .1 .1 .1))),
         )

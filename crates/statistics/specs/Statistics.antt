@@ -7,8 +7,8 @@ use lib.ListN.{replicate}
 use Rattle.octets.specs.Question.{firstNo, answered}
 use Rattle.runs.specs.Front.{is, count}
 use Rattle.runs.specs.Longest.{longest}
-use Rattle.runs.specs.Size.{sizeQuestion}
-use Rattle.statistics.specs.declared.StatisticsResult.the-variants.{Calculated, Refused}
+use Rattle.octets.specs.Size.{sizeQuestion}
+use Rattle.octets.specs.declared.AcceptResult.the-variants.{Accepted, Refused}
 use Rattle.statistics.specs.declared.LongestRun.{LongestRun}
 use Rattle.statistics.specs.declared.FrameStatistics.{FrameStatistics}
 use Rattle.statistics.specs.declared.StatisticsAnswer.{StatisticsAnswer}
@@ -62,7 +62,7 @@ noStatistics = record {
 -- an answer with statistics
 abbrev pub calculated : FrameStatistics → StatisticsAnswer
 calculated t = record {
-  result = Calculated;
+  result = Accepted;
   statistics = t;
 }
 

@@ -1,16 +1,10 @@
 // The statistics of a frame: `calculate_frame_statistics` of validation.rs, without the entropy.
-use runs::MAX_OCTETS;
+use octets::AcceptResult;
 ghost use mathlib.Core.Path.{_≡_};
 ghost use Prim.Native.Nat.{_≤_, _<_};
 ghost use lib.ListN.{length};
 ghost use Rattle.statistics.specs.Statistics.{byteDistribution, frameStatistics, noStatistics, statistics};
 ghost use Rattle.statistics.specs.Laws.{total, Calculates, AllCounted, NullCounted, HighCounted, LongestStands};
-
-// Whether the statistics were calculated, or the number of the question that failed.
-pub enum StatisticsResult {
-    Calculated,
-    Refused(u8),
-}
 
 // The longest run of one value, the earliest of equals; of no octets both are 0.
 pub struct LongestRun {
@@ -45,7 +39,7 @@ impl FrameStatistics {
 
 // What the statistics answer: the result, and the statistics, which are zeros where it refuses.
 pub struct StatisticsAnswer {
-    pub result: StatisticsResult,
+    pub result: AcceptResult,
     pub statistics: FrameStatistics,
 }
 
@@ -115,15 +109,15 @@ pub fn calculate_frame_statistics(frame: &[u8]) -> StatisticsAnswer
     ensures high { λ r. ⌜ Calculates HighCounted r ⌝ }
     ensures longest { λ r. ⌜ Calculates (LongestStands (now (frame .entry))) r ⌝ }
 {
-    if MAX_OCTETS < frame.len() {
+    if !octets::at_most_65535(frame.len()) {
         return StatisticsAnswer {
-            result: StatisticsResult::Refused(31),
+            result: AcceptResult::Refused(31),
             statistics: FrameStatistics::zeros(),
         };
     }
     let statistics = frame_statistics(frame);
     StatisticsAnswer {
-        result: StatisticsResult::Calculated,
+        result: AcceptResult::Accepted,
         statistics,
     }
 }

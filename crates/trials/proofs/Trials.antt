@@ -8,18 +8,18 @@ use Rattle.octets.specs.Range.{within}
 use Rattle.crc.specs.Check.{xorIf, step, steps, octetStep, register, check}
 use Rattle.crc.specs.Rule.{headerCheck, dataCheck}
 use Rattle.mstp_frame.specs.Frame.{encodeFrame}
-use Rattle.mstp.specs.Encode.{encodeQuestions, encodeQuestion, encodeAnswer, encodeOutput}
-use Rattle.bvlc.specs.Function.{functionOf}
-use Rattle.bvlc.specs.Header.{headerQuestions, headerQuestion, messageFunction, messageLength, decode}
-use Rattle.bip.specs.Message.{questionsBehind, messageQuestions, messageQuestion, process}
+use Rattle.mstp_encode.specs.Encode.{encodeQuestions, encodeQuestion, encodeAnswer, encodeOutput}
+use Rattle.bip_header.specs.Function.{functionOf}
+use Rattle.bip_header.specs.Header.{headerQuestions, headerQuestion, messageFunction, messageLength, decode}
+use Rattle.bip_message.specs.Message.{questionsBehind, messageQuestions, messageQuestion, process}
 use Rattle.findings.specs.Result.{found, errorsOf, result}
 use Rattle.validation_ip.specs.Tests.{errorTests, ipErrors, ipResult}
 use Rattle.runs.specs.Front.{is, front}
 use Rattle.patterns.specs.Stretches.{before, starts, stretchAt, stretchesFrom, stretches}
-use Rattle.patterns.specs.Entries.{when, paddingLength, padding, text, texts, nonPaddingLength, hasZeros, startsWith, hasSequence, entries, numbers}
+use Rattle.patterns.specs.Entries.{when, paddingLength, padding, text, texts, hasZeros, startsWith, entries, endLength, entryNumbers}
 use Rattle.patterns.specs.Detect.{patternsQuestions, patternsQuestion, patternsAnswer, patternsOutput}
 use Rattle.trials.specs.Trials.{Trials}
 
 pub trials : Trials
-unfolding Trials flatMap firstNo answered atFront writeAnswer writeOutput within xorIf step steps octetStep register check headerCheck dataCheck encodeFrame encodeQuestions encodeQuestion encodeAnswer encodeOutput functionOf headerQuestions headerQuestion messageFunction messageLength decode questionsBehind messageQuestions messageQuestion process found errorsOf result errorTests ipErrors ipResult is front before starts stretchAt stretchesFrom stretches when paddingLength padding text texts nonPaddingLength hasZeros startsWith hasSequence entries numbers patternsQuestions patternsQuestion patternsAnswer patternsOutput
+unfolding Trials flatMap firstNo answered atFront writeAnswer writeOutput within xorIf step steps octetStep register check headerCheck dataCheck encodeFrame encodeQuestions encodeQuestion encodeAnswer encodeOutput functionOf headerQuestions headerQuestion messageFunction messageLength decode questionsBehind messageQuestions messageQuestion process found errorsOf result errorTests ipErrors ipResult is front before starts stretchAt stretchesFrom stretches when paddingLength padding text texts endLength hasZeros startsWith entries entryNumbers patternsQuestions patternsQuestion patternsAnswer patternsOutput
 trials = (refl, (refl, (refl, (refl, (refl, (refl, (refl, (refl, (refl, (refl, (refl, (refl, (refl, (refl, (refl, tt)))))))))))))))

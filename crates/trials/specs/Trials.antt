@@ -4,21 +4,21 @@ use Prim.Native.Nat.{ℕ}
 use mathlib.Core.Bool.{true}
 use mathlib.Core.List.{List, [], _∷_, _++_}
 use lib.ListN.{drop, replicate}
-use Rattle.octets.specs.declared.Written.{Written}
-use Rattle.octets.specs.declared.Written.the-variants.{Count as Wrote, Refused as NotWritten}
+use Rattle.octets.specs.declared.CountResult.{CountResult}
+use Rattle.octets.specs.declared.CountResult.the-variants.{Count as Wrote, Refused as NotWritten}
 use Rattle.crc.specs.declared.CheckRule.{CheckRule}
 use Rattle.crc.specs.declared.CheckRule.the-variants.{AnnexG, House}
 use Rattle.crc.specs.Rule.{headerCheck}
 use Rattle.mstp_frame.specs.declared.MstpFrameType.the-variants.{BacnetDataNotExpectingReply}
-use Rattle.mstp.specs.Encode.{encodeAnswer, encodeOutput}
-use Rattle.bvlc.specs.declared.function.BvlcFunction.the-variants.{OriginalBroadcastNpdu}
-use Rattle.bvlc.specs.declared.BvlcDecoded.the-variants.{Header, Refused as NotRead}
-use Rattle.bvlc.specs.Header.{newHeader, decode}
-use Rattle.bip.specs.declared.BvlcMessage.the-variants.{Refused as NoMessage}
-use Rattle.bip.specs.Message.{process}
+use Rattle.mstp_encode.specs.Encode.{encodeAnswer, encodeOutput}
+use Rattle.bip_header.specs.declared.function.BvlcFunction.the-variants.{OriginalBroadcastNpdu}
+use Rattle.bip_header.specs.declared.BvlcDecoded.the-variants.{Header, Refused as NotRead}
+use Rattle.bip_header.specs.Header.{newHeader, decode}
+use Rattle.bip_message.specs.declared.BvlcMessage.the-variants.{Refused as NoMessage}
+use Rattle.bip_message.specs.Message.{process}
 use Rattle.validation_ip.specs.Tests.{ipResult}
-use Rattle.patterns.specs.declared.PatternsDetected.{PatternsDetected}
-use Rattle.patterns.specs.declared.PatternsDetected.the-variants.{Count as Found}
+use Rattle.octets.specs.declared.CountResult.{CountResult}
+use Rattle.octets.specs.declared.CountResult.the-variants.{Count as Found}
 use Rattle.patterns.specs.Detect.{patternsAnswer, patternsOutput}
 use Rattle.trials.specs.Trial.{Trial, _gives_, EachHolds}
 
@@ -39,7 +39,7 @@ abbrev pub octets41 : ℕ → List ℕ
 octets41 n = replicate n 0x41
 
 -- what the frame writer answers for some data and an output; type, destination and source stay the same
-abbrev pub writing : CheckRule → List ℕ → List ℕ → Written
+abbrev pub writing : CheckRule → List ℕ → List ℕ → CountResult
 writing rule body out = encodeAnswer rule BacnetDataNotExpectingReply 0x10 0x05 body out
 
 -- the output afterwards
@@ -51,7 +51,7 @@ abbrev pub sent : CheckRule → List ℕ
 sent rule = written rule threeOctets (zeros 13)
 
 -- what the patterns of some octets are answered with, and a list for two entries afterwards
-abbrev pub patternsOf : List ℕ → PatternsDetected × List ℕ
+abbrev pub patternsOf : List ℕ → CountResult × List ℕ
 patternsOf s = (patternsAnswer s (zeros 8), patternsOutput s (zeros 8))
 
 -- the entry of a padding: start, length, octet value

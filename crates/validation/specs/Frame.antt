@@ -6,7 +6,7 @@ use mathlib.Core.List.{List, [], _∷_}
 use lib.Dec.{eqb}
 use lib.ListN.{length}
 use Rattle.crc.specs.declared.CheckRule.{CheckRule}
-use Rattle.mstp_decode.specs.Decode.{beginsPreamble}
+use Rattle.mstp_frame.specs.Fields.{beginsPreamble}
 use Rattle.ethernet_decode.specs.Frame.{bacnetType}
 use Rattle.ethernet_decode.specs.Decode.{fieldOf}
 use Rattle.findings.specs.declared.Finding.{Finding}

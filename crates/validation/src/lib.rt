@@ -1,40 +1,18 @@
 // The validators of validation.rs, and the one that finds out which of them a frame goes to: `validate_frame`.
-use bvlc::BVLC_TYPE;
+use bip_header::BVLC_TYPE;
 use crc::CheckRule;
 use ethernet_decode::BACNET_ETHERNET_TYPE;
-pub use findings::BROADCAST_SOURCE;
-pub use findings::CRC_MISMATCH;
-pub use findings::FRAME_TOO_LONG;
-pub use findings::FRAME_TOO_SHORT;
-pub use findings::Finding;
-pub use findings::INVALID_ADDRESS;
-pub use findings::INVALID_FRAME_TYPE;
-pub use findings::INVALID_HEADER;
-pub use findings::INVALID_PREAMBLE;
-pub use findings::LENGTH_ABOVE_501;
-pub use findings::LinkType;
-pub use findings::MASTER_SENDS_TO_SLAVE;
-pub use findings::MULTICAST_ADDRESS;
-pub use findings::NON_STANDARD_CONFIGURATION;
-pub use findings::NOT_BACNET_LLC;
-pub use findings::NOT_BACNET_TYPE;
-pub use findings::PAYLOAD_SIZE_MISMATCH;
-pub use findings::PROPRIETARY_TYPE;
-pub use findings::SECURE_BVLL;
-pub use findings::SECURITY_WARNING;
-pub use findings::TABLE_CHANGED;
-pub use findings::UNDETERMINED;
-pub use findings::UNUSUAL_FRAME_SIZE;
-pub use findings::ValidationResult;
+use findings::FRAME_TOO_SHORT;
+use findings::INVALID_HEADER;
+use findings::LinkType;
+use findings::UNDETERMINED;
+use findings::ValidationResult;
 use mstp_frame::MSTP_PREAMBLE_55;
 use mstp_frame::MSTP_PREAMBLE_FF;
-pub use validation_ethernet::validate_ethernet_frame;
-pub use validation_ip::validate_bacnet_ip_frame;
-pub use validation_mstp::validate_mstp_frame;
 ghost use mathlib.Core.Path.{_≡_};
 ghost use mathlib.Core.List.{[]};
 ghost use lib.Dec.{eqb};
-ghost use Rattle.mstp_decode.specs.Decode.{beginsPreamble};
+ghost use Rattle.mstp_frame.specs.Fields.{beginsPreamble};
 ghost use Rattle.ethernet_decode.specs.Frame.{bacnetType};
 ghost use Rattle.ethernet_decode.specs.Decode.{fieldOf};
 ghost use Rattle.validation_ip.specs.Tests.{bvlcType};
@@ -49,10 +27,7 @@ fn begins_mstp(frame: &[u8]) -> bool
     if frame.len() < 2 {
         return false;
     }
-    if frame[0] != MSTP_PREAMBLE_55 {
-        return false;
-    }
-    frame[1] == MSTP_PREAMBLE_FF
+    (frame[0] == MSTP_PREAMBLE_55) & (frame[1] == MSTP_PREAMBLE_FF)
 }
 
 // Whether a frame begins 81.
@@ -95,11 +70,10 @@ pub fn link_of(frame: &[u8]) -> LinkType
 fn no_link(size: usize) -> ValidationResult
     ensures { λ r. ⌜ r ≡ result None size (noLinkErrors size) [] ⌝ }
 {
-    let none = ValidationResult::new(LinkType::None, size);
     if size < 1 {
-        return none.error_if(true, FRAME_TOO_SHORT, size, 1);
+        return ValidationResult::one_error(LinkType::None, size, FRAME_TOO_SHORT, size, 1);
     }
-    none.error_if(true, INVALID_HEADER, UNDETERMINED, 0)
+    ValidationResult::one_error(LinkType::None, size, INVALID_HEADER, UNDETERMINED, 0)
 }
 
 // Checks a frame by the validator of the link that its octets tell. The rule is for MS/TP.
@@ -109,9 +83,9 @@ pub fn validate_frame(rule: CheckRule, frame: &[u8]) -> ValidationResult
     let link = link_of(frame);
     match link {
         LinkType::None => no_link(frame.len()),
-        LinkType::BacnetIp => validate_bacnet_ip_frame(frame),
-        LinkType::Ethernet => validate_ethernet_frame(frame),
-        LinkType::MsTP => validate_mstp_frame(rule, frame),
+        LinkType::BacnetIp => validation_ip::validate_bacnet_ip_frame(frame),
+        LinkType::Ethernet => validation_ethernet::validate_ethernet_frame(frame),
+        LinkType::MsTP => validation_mstp::validate_mstp_frame(rule, frame),
     }
 }
 

@@ -12,7 +12,8 @@ use Rattle.ethernet_decode.specs.Decode.{destinationOf, fieldOf}
 use Rattle.findings.specs.declared.Finding.{Finding}
 use Rattle.findings.specs.declared.LinkType.the-variants.{Ethernet}
 use Rattle.findings.specs.declared.ValidationResult.{ValidationResult}
-use Rattle.findings.specs.Finding.{frameTooLong, invalidHeader, unusualFrameSize, nonStandardConfiguration, notBacnetType, notBacnetLlc, multicastAddress}
+use Rattle.findings.specs.Finding.{frameTooLong, invalidHeader, notBacnetType, notBacnetLlc}
+use Rattle.findings.specs.Finding.{unusualFrameSize, nonStandardConfiguration, multicastAddress}
 use Rattle.findings.specs.Result.{Test, finds, errorsOf, warningsOf, result}
 
 -- the LLC header, three octets as one number

@@ -11,15 +11,14 @@ use findings::MULTICAST_ADDRESS;
 use findings::NON_STANDARD_CONFIGURATION;
 use findings::NOT_BACNET_LLC;
 use findings::NOT_BACNET_TYPE;
+use findings::UNUSED;
 use findings::UNUSUAL_FRAME_SIZE;
 use findings::ValidationResult;
 ghost use mathlib.Core.Path.{_≡_};
-ghost use mathlib.Core.List.{[], foldl};
 ghost use Prim.Native.Nat.{_≤_};
 ghost use lib.ListN.{length};
-ghost use Rattle.findings.specs.declared.LinkType.the-variants.{Ethernet};
-ghost use Rattle.findings.specs.Result.{result, faultless, withError};
-ghost use Rattle.validation_ethernet.specs.Tests.{llc, errorTests, broadcast, multicast, ethernetResult};
+ghost use Rattle.findings.specs.Result.{faultless};
+ghost use Rattle.validation_ethernet.specs.Tests.{llc, broadcast, multicast, ethernetResult};
 ghost use Rattle.validation_ethernet.specs.Validity.{AgreesWithEthernet};
 
 // The LLC header of BACnet frames as one number.
@@ -34,30 +33,6 @@ fn llc(frame: &[u8]) -> usize
     ensures { λ r. ⌜ r ≡ llc (now (frame .entry)) ⌝ }
 {
     octets::number(frame[14], frame[15]) as usize * 256 + frame[16] as usize
-}
-
-// The errors of a frame of a header or more, test by test.
-fn with_errors(frame: &[u8]) -> ValidationResult
-    requires { ⌜ 17 ≤ length (now frame) ⌝ }
-    ensures { λ r. ⌜ r ≡ foldl withError (result Ethernet (length (now (frame .entry))) [] []) (errorTests (now (frame .entry))) ⌝ }
-{
-    let size = frame.len();
-    let ether_type = octets::number(frame[12], frame[13]);
-    let llc = llc(frame);
-    let mut result = ValidationResult::new(LinkType::Ethernet, size);
-    result = result.error_if(
-        MAX_ETHERNET_FRAME_SIZE < size,
-        FRAME_TOO_LONG,
-        size,
-        MAX_ETHERNET_FRAME_SIZE,
-    );
-    result = result.error_if(
-        ether_type != BACNET_ETHERNET_TYPE,
-        INVALID_HEADER,
-        NOT_BACNET_TYPE,
-        ether_type as usize,
-    );
-    result.error_if(llc != BACNET_LLC, INVALID_HEADER, NOT_BACNET_LLC, llc)
 }
 
 // Whether the destination is the broadcast address.
@@ -87,17 +62,47 @@ pub fn validate_ethernet_frame(frame: &[u8]) -> ValidationResult
 {
     let size = frame.len();
     if size < BACNET_ETHERNET_HEADER_SIZE {
-        let none = ValidationResult::new(LinkType::Ethernet, size);
-        return none.error_if(true, FRAME_TOO_SHORT, size, BACNET_ETHERNET_HEADER_SIZE);
+        return ValidationResult::one_error(
+            LinkType::Ethernet,
+            size,
+            FRAME_TOO_SHORT,
+            size,
+            BACNET_ETHERNET_HEADER_SIZE,
+        );
     }
-    let mut result = with_errors(frame);
-    result = result.warning_if(
-        is_multicast(frame),
-        NON_STANDARD_CONFIGURATION,
-        MULTICAST_ADDRESS,
-        0,
+    let ether_type = octets::number(frame[12], frame[13]);
+    let llc = llc(frame);
+    let mut errors = [UNUSED; 7];
+    let too_long = MAX_ETHERNET_FRAME_SIZE < size;
+    errors[0] = findings::entry_if(too_long, FRAME_TOO_LONG, size, MAX_ETHERNET_FRAME_SIZE);
+    let i = octets::one_if(too_long);
+    let other_type = ether_type != BACNET_ETHERNET_TYPE;
+    errors[i] = findings::entry_if(
+        other_type,
+        INVALID_HEADER,
+        NOT_BACNET_TYPE,
+        ether_type as usize,
     );
-    result.warning_if(size == MIN_ETHERNET_FRAME_SIZE, UNUSUAL_FRAME_SIZE, size, 0)
+    let j = i + octets::one_if(other_type);
+    let other_llc = llc != BACNET_LLC;
+    errors[j] = findings::entry_if(other_llc, INVALID_HEADER, NOT_BACNET_LLC, llc);
+    let error_count = j + octets::one_if(other_llc);
+    let mut warnings = [UNUSED; 2];
+    let multicast = is_multicast(frame);
+    warnings[0] = findings::entry_if(multicast, NON_STANDARD_CONFIGURATION, MULTICAST_ADDRESS, 0);
+    let v = octets::one_if(multicast);
+    let least_size = size == MIN_ETHERNET_FRAME_SIZE;
+    warnings[v] = findings::entry_if(least_size, UNUSUAL_FRAME_SIZE, size, 0);
+    let warning_count = v + octets::one_if(least_size);
+    ValidationResult {
+        is_valid: error_count == 0,
+        link_type: LinkType::Ethernet,
+        frame_size: size,
+        errors,
+        error_count,
+        warnings,
+        warning_count,
+    }
 }
 
 // Whether a frame gives neither an error nor a warning.

@@ -1,4 +1,2 @@
-pub mod Answers
-pub mod Cases
 pub mod NoFindings
 pub mod Validity

@@ -11,7 +11,7 @@ use lib.ListN.{length}
 use Rattle.octets.specs.Question.{firstNo, excusing}
 use Rattle.octets.proofs.Questions.{all-yes, none-fails}
 use Rattle.octets.proofs.Tests.{both-true, same-test}
-use Rattle.bvlc.specs.Header.{headerQuestions, messageLength}
+use Rattle.bip_header.specs.Header.{headerQuestions, messageLength}
 use Rattle.findings.proofs.Valid.{valid, valid-if}
 use Rattle.validation_ip.specs.Tests.{bvlcType, function, errorTests, ipErrors}
 use Rattle.validation_ip.specs.Validity.{readingQuestions, ValidAsRead}

@@ -5,11 +5,12 @@ use mathlib.Core.Bool.{Bool, _||_, not}
 use mathlib.Core.List.{List, [], _∷_}
 use lib.Dec.{ltb, eqb}
 use lib.ListN.{length, getD}
-use Rattle.bvlc.specs.Header.{messageLength}
+use Rattle.bip_header.specs.Header.{messageLength}
 use Rattle.findings.specs.declared.Finding.{Finding}
 use Rattle.findings.specs.declared.LinkType.the-variants.{BacnetIp}
 use Rattle.findings.specs.declared.ValidationResult.{ValidationResult}
-use Rattle.findings.specs.Finding.{frameTooLong, invalidPreamble, invalidFrameType, payloadSizeMismatch, securityWarning, secureBvll, tableChanged}
+use Rattle.findings.specs.Finding.{frameTooLong, invalidPreamble, invalidFrameType, payloadSizeMismatch}
+use Rattle.findings.specs.Finding.{securityWarning, secureBvll, tableChanged}
 use Rattle.findings.specs.Result.{Test, finds, errorsOf, warningsOf, result}
 
 -- the type
@@ -30,7 +31,7 @@ errorTests s =
     ∷ []
 
 -- functions 01 and 08 change a table
-unfoldable pub changesTable : ℕ → Bool
+abbrev pub changesTable : ℕ → Bool
 changesTable n = eqb n 0x01 || eqb n 0x08
 
 -- the tests of warnings: 0C; 01 or 08

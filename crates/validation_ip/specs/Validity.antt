@@ -7,7 +7,7 @@ use Prim.Native.Nat.{ℕ}
 use lib.Dec.{leb, eqb}
 use lib.ListN.{length}
 use Rattle.octets.specs.Question.{Question, firstNo, excusing}
-use Rattle.bvlc.specs.Header.{headerQuestions, messageLength}
+use Rattle.bip_header.specs.Header.{headerQuestions, messageLength}
 use Rattle.validation_ip.specs.Tests.{function}
 
 -- the questions of reading a header; 13 is excused for function 0D, which is refused there

@@ -1,6 +1,6 @@
 // The validator of BACnet/IP messages: `validate_bacnet_ip_frame` of validation.rs.
-use bvlc::BVLC_HEADER_SIZE;
-use bvlc::BVLC_TYPE;
+use bip_header::BVLC_HEADER_SIZE;
+use bip_header::BVLC_TYPE;
 use findings::FRAME_TOO_LONG;
 use findings::FRAME_TOO_SHORT;
 use findings::INVALID_FRAME_TYPE;
@@ -10,14 +10,11 @@ use findings::PAYLOAD_SIZE_MISMATCH;
 use findings::SECURE_BVLL;
 use findings::SECURITY_WARNING;
 use findings::TABLE_CHANGED;
+use findings::UNUSED;
 use findings::ValidationResult;
 ghost use mathlib.Core.Path.{_≡_};
-ghost use mathlib.Core.List.{[], foldl};
-ghost use Prim.Native.Nat.{_≤_};
-ghost use lib.ListN.{length};
-ghost use Rattle.findings.specs.declared.LinkType.the-variants.{BacnetIp};
-ghost use Rattle.findings.specs.Result.{result, faultless, withError};
-ghost use Rattle.validation_ip.specs.Tests.{errorTests, changesTable, ipResult};
+ghost use Rattle.findings.specs.Result.{faultless};
+ghost use Rattle.validation_ip.specs.Tests.{changesTable, ipResult};
 ghost use Rattle.validation_ip.specs.Validity.{ValidAsRead};
 
 // The largest function that is let pass: one more than `decode` knows.
@@ -26,45 +23,11 @@ const LAST_FUNCTION: u8 = 0x0D;
 // Most octets of a message.
 const MAX_MESSAGE_SIZE: usize = 1497;
 
-// The errors of a message of a header or more, test by test.
-fn with_errors(message: &[u8]) -> ValidationResult
-    requires { ⌜ 4 ≤ length (now message) ⌝ }
-    ensures { λ r. ⌜ r ≡ foldl withError (result BacnetIp (length (now (message .entry))) [] []) (errorTests (now (message .entry))) ⌝ }
-{
-    let size = message.len();
-    let bvlc_type = message[0];
-    let function = message[1];
-    let declared = octets::number(message[2], message[3]) as usize;
-    let mut result = ValidationResult::new(LinkType::BacnetIp, size);
-    result = result.error_if(
-        bvlc_type != BVLC_TYPE,
-        INVALID_PREAMBLE,
-        BVLC_TYPE as usize,
-        bvlc_type as usize,
-    );
-    result = result.error_if(
-        LAST_FUNCTION < function,
-        INVALID_FRAME_TYPE,
-        function as usize,
-        0,
-    );
-    result = result.error_if(declared != size, PAYLOAD_SIZE_MISMATCH, declared, size);
-    result.error_if(
-        MAX_MESSAGE_SIZE < size,
-        FRAME_TOO_LONG,
-        size,
-        MAX_MESSAGE_SIZE,
-    )
-}
-
 // Whether a function changes a table.
 fn changes_table(function: u8) -> bool
     ensures { λ r. ⌜ r ≡ changesTable function ⌝ }
 {
-    match function {
-        0x01 | 0x08 => true,
-        _ => false,
-    }
+    (function == 0x01) | (function == 0x08)
 }
 
 // Checks a message: every error and warning that it gives, in the Rust's order. Valid are exactly the octets whose header
@@ -75,13 +38,51 @@ pub fn validate_bacnet_ip_frame(message: &[u8]) -> ValidationResult
 {
     let size = message.len();
     if size < BVLC_HEADER_SIZE {
-        let none = ValidationResult::new(LinkType::BacnetIp, size);
-        return none.error_if(true, FRAME_TOO_SHORT, size, BVLC_HEADER_SIZE);
+        return ValidationResult::one_error(
+            LinkType::BacnetIp,
+            size,
+            FRAME_TOO_SHORT,
+            size,
+            BVLC_HEADER_SIZE,
+        );
     }
+    let bvlc_type = message[0];
     let function = message[1];
-    let mut result = with_errors(message);
-    result = result.warning_if(function == 0x0C, SECURITY_WARNING, SECURE_BVLL, 0);
-    result.warning_if(changes_table(function), SECURITY_WARNING, TABLE_CHANGED, 0)
+    let declared = octets::number(message[2], message[3]) as usize;
+    let mut errors = [UNUSED; 7];
+    let other_type = bvlc_type != BVLC_TYPE;
+    errors[0] = findings::entry_if(
+        other_type,
+        INVALID_PREAMBLE,
+        BVLC_TYPE as usize,
+        bvlc_type as usize,
+    );
+    let i = octets::one_if(other_type);
+    let above_last = LAST_FUNCTION < function;
+    errors[i] = findings::entry_if(above_last, INVALID_FRAME_TYPE, function as usize, 0);
+    let j = i + octets::one_if(above_last);
+    let mismatch = declared != size;
+    errors[j] = findings::entry_if(mismatch, PAYLOAD_SIZE_MISMATCH, declared, size);
+    let k = j + octets::one_if(mismatch);
+    let too_long = MAX_MESSAGE_SIZE < size;
+    errors[k] = findings::entry_if(too_long, FRAME_TOO_LONG, size, MAX_MESSAGE_SIZE);
+    let error_count = k + octets::one_if(too_long);
+    let mut warnings = [UNUSED; 2];
+    let secure = function == 0x0C;
+    warnings[0] = findings::entry_if(secure, SECURITY_WARNING, SECURE_BVLL, 0);
+    let v = octets::one_if(secure);
+    let table = changes_table(function);
+    warnings[v] = findings::entry_if(table, SECURITY_WARNING, TABLE_CHANGED, 0);
+    let warning_count = v + octets::one_if(table);
+    ValidationResult {
+        is_valid: error_count == 0,
+        link_type: LinkType::BacnetIp,
+        frame_size: size,
+        errors,
+        error_count,
+        warnings,
+        warning_count,
+    }
 }
 
 // Whether a message gives neither an error nor a warning.

@@ -1,4 +1,3 @@
-pub mod Answers
-pub mod Cases
+pub mod NoError
 pub mod NoFindings
 pub mod Validity

@@ -4,22 +4,20 @@ use Prim.Native.Nat.{ℕ}
 use mathlib.Core.Bool.{Bool, _&&_, not}
 use mathlib.Core.List.{List, [], _∷_}
 use lib.Dec.{leb, ltb, eqb}
-use lib.ListN.{length, getD}
-use Rattle.octets.specs.Number.{number}
+use lib.ListN.{length}
 use Rattle.octets.specs.Range.{within}
 use Rattle.crc.specs.Rule.{dataCheck}
 use Rattle.crc.specs.declared.CheckRule.{CheckRule}
+use Rattle.mstp_frame.specs.Address.{isMaster, isSlave}
+use Rattle.mstp_frame.specs.Fields.{preamble, frameType, destinationOf, sourceOf, dataLength}
+use Rattle.mstp_frame.specs.Fields.{headerCheckSent, headerCheckOf, dataPart, dataCheckSent}
 use Rattle.mstp_frame.specs.Frame.{frameSize}
-use Rattle.mstp_decode.specs.Decode.{frameType, destinationOf, sourceOf, headerCheckSent, headerCheckOf, dataLength, dataPart, dataCheckSent}
 use Rattle.findings.specs.declared.Finding.{Finding}
 use Rattle.findings.specs.declared.LinkType.the-variants.{MsTP}
 use Rattle.findings.specs.declared.ValidationResult.{ValidationResult}
-use Rattle.findings.specs.Finding.{invalidPreamble, crcMismatch, invalidFrameType, invalidAddress, invalidHeader, payloadSizeMismatch, nonStandardConfiguration, broadcastSource, lengthAbove501, proprietaryType, masterSendsToSlave}
+use Rattle.findings.specs.Finding.{invalidPreamble, crcMismatch, invalidFrameType, invalidAddress, invalidHeader, payloadSizeMismatch}
+use Rattle.findings.specs.Finding.{nonStandardConfiguration, broadcastSource, lengthAbove501, proprietaryType, masterSendsToSlave}
 use Rattle.findings.specs.Result.{Test, finds, errorsOf, warningsOf, result}
-
--- the first two octets, as one number
-abbrev pub preamble : List ℕ → ℕ
-preamble s = number (getD s 0 0) (getD s 1 0)
 
 -- there are data, and enough octets for them and their check
 unfoldable pub dataCheckThere : List ℕ → Bool
@@ -43,9 +41,9 @@ errorTests rule s =
     ∷ dataCheckTest rule s
     ∷ []
 
--- a master (0 to 127) sends to a slave (128 to 254) with a type other than 3, under either rule
+-- a master sends to a slave with a type other than 3, under either rule
 unfoldable pub masterToSlave : CheckRule → ℕ → ℕ → ℕ → Bool
-masterToSlave rule type to from = leb from 127 && (within 128 254 to && not (eqb type 3))
+masterToSlave rule type destination source = isMaster source && (isSlave destination && not (eqb type 3))
 
 -- the tests of warnings: a type of 128 or more, a master that sends to a slave
 unfoldable pub warningTests : CheckRule → List ℕ → List Test
@@ -57,6 +55,10 @@ warningTests rule s =
 -- the errors of a frame
 unfoldable pub mstpErrors : CheckRule → List ℕ → List Finding
 mstpErrors rule s = errorsOf 8 (length s) (errorTests rule s)
+
+-- it has none
+abbrev pub errorless : CheckRule → List ℕ → Bool
+errorless rule s = eqb (length (mstpErrors rule s)) 0
 
 -- its warnings
 unfoldable pub mstpWarnings : CheckRule → List ℕ → List Finding

@@ -7,7 +7,8 @@ use Prim.Native.Nat.{ℕ}
 use lib.Dec.{leb, eqb}
 use Rattle.octets.specs.Question.{Question, firstNo, excusing}
 use Rattle.crc.specs.declared.CheckRule.{CheckRule}
-use Rattle.mstp_decode.specs.Decode.{frameType, sourceOf, dataLength, decodeQuestions}
+use Rattle.mstp_frame.specs.Fields.{frameType, sourceOf, dataLength}
+use Rattle.mstp_decode.specs.Decode.{decodeQuestions}
 
 -- the questions of reading; 3 is excused where the type is proprietary, 128 or more
 unfoldable pub readingQuestions : CheckRule → List ℕ → List Question

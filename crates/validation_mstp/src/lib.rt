@@ -3,6 +3,7 @@ use crc::CheckRule;
 use findings::BROADCAST_SOURCE;
 use findings::CRC_MISMATCH;
 use findings::FRAME_TOO_SHORT;
+use findings::Finding;
 use findings::INVALID_ADDRESS;
 use findings::INVALID_FRAME_TYPE;
 use findings::INVALID_HEADER;
@@ -13,44 +14,47 @@ use findings::MASTER_SENDS_TO_SLAVE;
 use findings::NON_STANDARD_CONFIGURATION;
 use findings::PAYLOAD_SIZE_MISMATCH;
 use findings::PROPRIETARY_TYPE;
+use findings::UNUSED;
 use findings::ValidationResult;
-use mstp_decode::MstpDecoded;
 use mstp_frame::MSTP_BROADCAST;
 use mstp_frame::MSTP_HEADER_SIZE;
 use mstp_frame::MSTP_MAX_DATA_LENGTH;
 ghost use mathlib.Core.Path.{_≡_};
-ghost use Prim.Native.Nat.{_≤_};
+ghost use mathlib.Core.Bool.{not};
+ghost use lib.Dec.{eqb};
 ghost use lib.ListN.{length};
-ghost use Rattle.mstp_decode.specs.Decode.{dataLength};
-ghost use mathlib.Core.List.{[], foldl};
-ghost use Rattle.findings.specs.declared.LinkType.the-variants.{MsTP};
-ghost use Rattle.findings.specs.Result.{result, faultless, withError};
-ghost use Rattle.validation_mstp.specs.Tests.{dataCheckTest, errorTests, masterToSlave, mstpResult};
+ghost use Rattle.octets.specs.Range.{within};
+ghost use Rattle.findings.specs.Result.{found, stored, faultless};
+ghost use Rattle.validation_mstp.specs.Tests.{dataCheckTest, masterToSlave, warningTests, errorless, mstpResult};
 ghost use Rattle.validation_mstp.specs.Validity.{ValidAsRead};
 
 // The preamble as one number.
 const MSTP_PREAMBLE: usize = 0x55FF;
 
-// The result with an error more where the data check is there and wrong.
-fn data_check_error(
-    result: ValidationResult,
-    rule: CheckRule,
-    frame: &[u8],
-    n: u16,
-) -> ValidationResult
-    requires { ⌜ n ≡ dataLength (now frame) ⌝ }
-    ensures { λ r. ⌜ r ≡ withError result (dataCheckTest rule (now (frame .entry))) ⌝ }
+// The first type that is proprietary.
+const PROPRIETARY: u8 = 128;
+
+// Whether a type is neither known nor proprietary.
+fn is_reserved(frame_type: u8) -> bool
+    ensures { λ r. ⌜ r ≡ within 8 127 «frame_type» ⌝ }
 {
-    if n == 0 {
-        return result;
+    octets::within(8, 127, frame_type)
+}
+
+// The entry of the data check: an error where it is there and wrong, else unused.
+fn data_check_entry(rule: CheckRule, frame: &[u8]) -> Finding
+    ensures { λ r. ⌜ r ≡ stored (dataCheckTest rule (now (frame .entry))) ⌝ }
+{
+    let data_length = mstp_frame::data_length(frame);
+    if data_length == 0 {
+        return UNUSED;
     }
-    if frame.len() < mstp_frame::frame_size(n) {
-        return result;
+    if frame.len() < mstp_frame::frame_size(data_length) {
+        return UNUSED;
     }
-    let end = n as usize + MSTP_HEADER_SIZE;
-    let received = octets::number(frame[end + 1], frame[end]);
-    let calculated = crc::crc16_mstp(rule, &frame[MSTP_HEADER_SIZE..end]);
-    result.error_if(
+    let received = mstp_frame::data_check_sent(frame);
+    let calculated = crc::crc16_mstp(rule, mstp_frame::data_part(frame));
+    findings::entry_if(
         received != calculated,
         CRC_MISMATCH,
         received as usize,
@@ -62,61 +66,13 @@ fn data_check_error(
 fn master_to_slave(rule: CheckRule, frame_type: u8, destination: u8, source: u8) -> bool
     ensures { λ r. ⌜ r ≡ masterToSlave rule «frame_type» destination source ⌝ }
 {
-    if 127 < source {
+    if mstp_frame::is_master_node(source) {
+        if mstp_frame::is_slave_node(destination) {
+            return frame_type != 3;
+        }
         return false;
     }
-    if !octets::within(128, 254, destination) {
-        return false;
-    }
-    frame_type != 3
-}
-
-// The errors of a frame of a header or more, test by test.
-fn with_errors(rule: CheckRule, frame: &[u8]) -> ValidationResult
-    requires { ⌜ 8 ≤ length (now frame) ⌝ }
-    ensures { λ r. ⌜ r ≡ foldl withError (result MsTP (length (now (frame .entry))) [] []) (errorTests rule (now (frame .entry))) ⌝ }
-{
-    let size = frame.len();
-    let preamble = octets::number(frame[0], frame[1]) as usize;
-    let frame_type = frame[2];
-    let source = frame[4];
-    let n = octets::number(frame[5], frame[6]);
-    let received = frame[7];
-    let calculated = crc::header_crc(rule, &frame[2..7]);
-    let declared = mstp_frame::frame_size(n);
-    let mut result = ValidationResult::new(LinkType::MsTP, size);
-    result = result.error_if(
-        preamble != MSTP_PREAMBLE,
-        INVALID_PREAMBLE,
-        MSTP_PREAMBLE,
-        preamble,
-    );
-    result = result.error_if(
-        octets::within(8, 127, frame_type),
-        INVALID_FRAME_TYPE,
-        frame_type as usize,
-        0,
-    );
-    result = result.error_if(
-        source == MSTP_BROADCAST,
-        INVALID_ADDRESS,
-        source as usize,
-        BROADCAST_SOURCE,
-    );
-    result = result.error_if(
-        MSTP_MAX_DATA_LENGTH < n as usize,
-        INVALID_HEADER,
-        LENGTH_ABOVE_501,
-        n as usize,
-    );
-    result = result.error_if(
-        received != calculated,
-        CRC_MISMATCH,
-        received as usize,
-        calculated as usize,
-    );
-    result = result.error_if(declared != size, PAYLOAD_SIZE_MISMATCH, declared, size);
-    data_check_error(result, rule, frame, n)
+    false
 }
 
 // Checks a frame: every error and warning that it gives, in the Rust's order. Valid are exactly the octets that `decode`
@@ -127,22 +83,97 @@ pub fn validate_mstp_frame(rule: CheckRule, frame: &[u8]) -> ValidationResult
 {
     let size = frame.len();
     if size < MSTP_HEADER_SIZE {
-        let none = ValidationResult::new(LinkType::MsTP, size);
-        return none.error_if(true, FRAME_TOO_SHORT, size, MSTP_HEADER_SIZE);
+        return ValidationResult::one_error(
+            LinkType::MsTP,
+            size,
+            FRAME_TOO_SHORT,
+            size,
+            MSTP_HEADER_SIZE,
+        );
     }
-    let frame_type = frame[2];
-    let mut result = with_errors(rule, frame);
-    result = result.warning_if(
-        128 <= frame_type,
-        NON_STANDARD_CONFIGURATION,
-        PROPRIETARY_TYPE,
-        frame_type as usize,
-    );
-    result.warning_if(
-        master_to_slave(rule, frame_type, frame[3], frame[4]),
-        NON_STANDARD_CONFIGURATION,
-        MASTER_SENDS_TO_SLAVE,
-        0,
+    let preamble = mstp_frame::preamble(frame) as usize;
+    let frame_type = mstp_frame::frame_type(frame);
+    let type_number = frame_type as usize;
+    let source = mstp_frame::source(frame);
+    let data_length = mstp_frame::data_length(frame);
+    let received = mstp_frame::header_check_sent(frame);
+    let calculated = crc::header_crc(rule, mstp_frame::fields_part(frame));
+    let declared = mstp_frame::frame_size(data_length);
+    let mut errors = [UNUSED; 7];
+    let a = preamble != MSTP_PREAMBLE;
+    errors[0] = findings::entry_if(a, INVALID_PREAMBLE, MSTP_PREAMBLE, preamble);
+    let i = octets::one_if(a);
+    let b = is_reserved(frame_type);
+    errors[i] = findings::entry_if(b, INVALID_FRAME_TYPE, type_number, 0);
+    let j = i + octets::one_if(b);
+    let c = source == MSTP_BROADCAST;
+    errors[j] = findings::entry_if(c, INVALID_ADDRESS, source as usize, BROADCAST_SOURCE);
+    let k = j + octets::one_if(c);
+    let d = MSTP_MAX_DATA_LENGTH < data_length as usize;
+    errors[k] = findings::entry_if(d, INVALID_HEADER, LENGTH_ABOVE_501, data_length as usize);
+    let l = k + octets::one_if(d);
+    let e = received != calculated;
+    errors[l] = findings::entry_if(e, CRC_MISMATCH, received as usize, calculated as usize);
+    let m = l + octets::one_if(e);
+    let f = declared != size;
+    errors[m] = findings::entry_if(f, PAYLOAD_SIZE_MISMATCH, declared, size);
+    let o = m + octets::one_if(f);
+    let last = data_check_entry(rule, frame);
+    errors[o] = last;
+    let error_count = o + octets::one_if(last.kind != 0);
+    let mut warnings = [UNUSED; 2];
+    let g = PROPRIETARY <= frame_type;
+    warnings[0] = findings::entry_if(g, NON_STANDARD_CONFIGURATION, PROPRIETARY_TYPE, type_number);
+    let v = octets::one_if(g);
+    let h = master_to_slave(rule, frame_type, mstp_frame::destination(frame), source);
+    warnings[v] = findings::entry_if(h, NON_STANDARD_CONFIGURATION, MASTER_SENDS_TO_SLAVE, 0);
+    let warning_count = v + octets::one_if(h);
+    ValidationResult {
+        is_valid: error_count == 0,
+        link_type: LinkType::MsTP,
+        frame_size: size,
+        errors,
+        error_count,
+        warnings,
+        warning_count,
+    }
+}
+
+// Whether a frame gives no error: the tests in their order, up to the first that fires.
+pub fn errorless(rule: CheckRule, frame: &[u8]) -> bool
+    ensures { λ r. ⌜ r ≡ errorless rule (now (frame .entry)) ⌝ }
+{
+    if frame.len() < MSTP_HEADER_SIZE {
+        return false;
+    }
+    if mstp_frame::preamble(frame) as usize != MSTP_PREAMBLE {
+        return false;
+    }
+    if is_reserved(mstp_frame::frame_type(frame)) {
+        return false;
+    }
+    if mstp_frame::source(frame) == MSTP_BROADCAST {
+        return false;
+    }
+    if MSTP_MAX_DATA_LENGTH < mstp_frame::data_length(frame) as usize {
+        return false;
+    }
+    mstp_decode::checks_question(rule, frame) == 0
+}
+
+// Whether a test of warnings fires.
+fn warned(rule: CheckRule, frame: &[u8]) -> bool
+    ensures { λ r. ⌜ r ≡ not (eqb (length (found (warningTests rule (now (frame .entry))))) 0) ⌝ }
+{
+    let frame_type = mstp_frame::frame_type(frame);
+    if PROPRIETARY <= frame_type {
+        return true;
+    }
+    master_to_slave(
+        rule,
+        frame_type,
+        mstp_frame::destination(frame),
+        mstp_frame::source(frame),
     )
 }
 
@@ -153,18 +184,8 @@ pub fn faultless(rule: CheckRule, frame: &[u8]) -> bool
     if frame.len() < MSTP_HEADER_SIZE {
         return false;
     }
-    let source = frame[4];
-    if source == MSTP_BROADCAST {
+    if warned(rule, frame) {
         return false;
     }
-    if MSTP_MAX_DATA_LENGTH < octets::number(frame[5], frame[6]) as usize {
-        return false;
-    }
-    if master_to_slave(rule, frame[2], frame[3], source) {
-        return false;
-    }
-    match mstp_decode::decode(rule, frame) {
-        MstpDecoded::Frame(_) => true,
-        MstpDecoded::Refused(_) => false,
-    }
+    errorless(rule, frame)
 }

@@ -6,22 +6,10 @@ use borrow.Author.Needs.{needs}
 use Rattle.answers.proofs.tell_bvlc.Statement.{statement}
 use Rattle.answers.proofs.tell_bvlc.Tie as tie
 
-enum-known-answer : tie.Need-enum-known-answer
-enum-known-answer c = search needs
-
-bvlc-numbers-requires : tie.Need-bvlc-numbers-requires
-bvlc-numbers-requires c κs = search needs
-
-enum-known-answer-2 : tie.Need-enum-known-answer-2
-enum-known-answer-2 c = search needs
-
 returns : tie.Need-returns
 returns c = let e = sym (c .before .before .answer .given .1) in (ap bvlcNumber e, c .bvlc-numbers .ensures ∙ ap (bvlcHeader _) e)
-
-returns-2 : tie.Need-returns-2
-returns-2 c = search needs
 
 pub tell-bvlc-spec : {M : Type 1} → statement M
 tell-bvlc-spec =
     tie.close
-    (tie.spec enum-known-answer bvlc-numbers-requires enum-known-answer-2 returns returns-2)
+    (tie.spec (λ c. search needs) (λ c κs. search needs) (λ c. search needs) returns (λ c. search needs))

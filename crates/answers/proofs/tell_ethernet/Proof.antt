@@ -3,24 +3,15 @@
 use mathlib.Core.Path.{sym, ap, _∙_}
 use mathlib.Core.List.{[], _∷_}
 use Prim.Native.Nat.{ℕ}
-use Rattle.answers.specs.Told.{ethernetNumber, ifAccepted}
+use Rattle.octets.specs.Answer.{acceptNumber, ifAccepted}
 use borrow.Author.Needs.{needs}
 use Rattle.answers.proofs.tell_ethernet.Statement.{statement}
 use Rattle.answers.proofs.tell_ethernet.Tie as tie
 
-enum-told : tie.Need-enum-told
-enum-told c = search needs
-
-octets-from-requires : tie.Need-octets-from-requires
-octets-from-requires c κs = search needs
-
-enum-known-result : tie.Need-enum-known-result
-enum-known-result c = search needs
-
 returns : tie.Need-returns
 returns c =
     let e = sym (c .before .before .before .before .enum-told .given .1) in (
-      ap ethernetNumber e,
+      ap acceptNumber e,
       (
         ap (ifAccepted _ _) e,
         (ap (ifAccepted _ _) e, ap (λ (n : ℕ). 17 ∷ n ∷ []) (c .before .octets-from .ensures) ∙ ap (ifAccepted _ _) e),
@@ -30,8 +21,8 @@ returns c =
 returns-2 : tie.Need-returns-2
 returns-2 c =
     let e = sym (c .before .result .given .1) in
-    (ap ethernetNumber e, (ap (ifAccepted _ _) e, (ap (ifAccepted _ _) e, ap (ifAccepted _ _) e)))
+    (ap acceptNumber e, (ap (ifAccepted _ _) e, (ap (ifAccepted _ _) e, ap (ifAccepted _ _) e)))
 
 pub tell-ethernet-spec : {M : Type 1} → statement M
 tell-ethernet-spec =
-    tie.close (tie.spec enum-told octets-from-requires enum-known-result returns returns-2)
+    tie.close (tie.spec (λ c. search needs) (λ c κs. search needs) (λ c. search needs) returns returns-2)

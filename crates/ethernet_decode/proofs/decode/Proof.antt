@@ -11,9 +11,6 @@ use Rattle.ethernet_decode.proofs.decode.Tie as tie
 past : (c : tie.Else1) → Accepted (c .before .before .before .args .frame .now)
 past c = passed _ (c .before .decode-question .ensures) (c .if1 .left)
 
-decode-question-requires : tie.Need-decode-question-requires
-decode-question-requires c κs = search needs
-
 returns : tie.Need-returns
 returns c = decode-refused _ (c .before .decode-question .ensures) (c .if1 .taken)
 
@@ -32,4 +29,4 @@ returns-2 c =
 pub decode-spec : {M : Type 1} → statement M
 decode-spec =
     tie.close
-    (tie.spec decode-question-requires returns address-requires address-requires-2 returns-2)
+    (tie.spec (λ c κs. search needs) returns address-requires address-requires-2 returns-2)

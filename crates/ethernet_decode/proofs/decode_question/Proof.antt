@@ -11,12 +11,9 @@ returns : tie.Need-returns
 unfolding decodeQuestion decodeQuestions
 returns c = failed 21 _ (lt-leb _ _ (c .if1 .taken))
 
-header-question-requires : tie.Need-header-question-requires
-header-question-requires c κs = search needs
-
 returns-2 : tie.Need-returns-2
 unfolding decodeQuestion decodeQuestions
 returns-2 c = passed 21 _ (le-leb _ _ (c .before .if1 .left)) (c .header-question .ensures)
 
 pub decode-question-spec : {M : Type 1} → statement M
-decode-question-spec = tie.close (tie.spec returns header-question-requires returns-2)
+decode-question-spec = tie.close (tie.spec returns (λ c κs. search needs) returns-2)

@@ -8,21 +8,9 @@ use borrow.Author.Needs.{needs}
 use Rattle.ethernet_decode.proofs.header_question.Statement.{statement}
 use Rattle.ethernet_decode.proofs.header_question.Tie as tie
 
-shared-slice-read-number : tie.Need-shared-slice-read-number
-shared-slice-read-number c = search needs
-
-shared-slice-read-number-2 : tie.Need-shared-slice-read-number-2
-shared-slice-read-number-2 c = search needs
-
-number-requires : tie.Need-number-requires
-number-requires c κs = search needs
-
 returns : tie.Need-returns
 unfolding headerQuestions fieldOf
 returns c = failed 22 _ (rw (← (c .before .number .ensures)) (ne-eqb _ _ (c .if1 .taken)))
-
-llc-right-requires : tie.Need-llc-right-requires
-llc-right-requires c κs = search needs
 
 returns-2 : tie.Need-returns-2
 unfolding headerQuestions fieldOf
@@ -40,10 +28,10 @@ pub header-question-spec : {M : Type 1} → statement M
 header-question-spec =
     tie.close
     (tie.spec
-    shared-slice-read-number
-    shared-slice-read-number-2
-    number-requires
+    (λ c. search needs)
+    (λ c. search needs)
+    (λ c κs. search needs)
     returns
-    llc-right-requires
+    (λ c κs. search needs)
     returns-2
     returns-3)

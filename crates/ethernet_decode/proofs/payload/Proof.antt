@@ -8,12 +8,6 @@ use Rattle.ethernet_decode.proofs.payload.Tie as tie
 returns-2 : tie.Need-returns-2
 returns-2 c = payload-accepted _ (c .before .before .decode-question .ensures) (c .before .if1 .left)
 
-decode-question-requires : tie.Need-decode-question-requires
-decode-question-requires c κs = search needs
-
-slice-aggregate-result : tie.Need-slice-aggregate-result
-slice-aggregate-result c = search needs
-
 returns : tie.Need-returns
 returns c = payload-refused _ (c .before .before .decode-question .ensures) (c .before .if1 .taken)
 
@@ -23,17 +17,14 @@ sub-result c = passed _ (c .before .decode-question .ensures) (c .if1 .left) .lo
 part-result-start : tie.Need-part-result-start
 part-result-start c = passed _ (c .before .decode-question .ensures) (c .if1 .left) .long
 
-part-result-end : tie.Need-part-result-end
-part-result-end c = search needs
-
 pub payload-spec : {M : Type 1} → statement M
 payload-spec =
     tie.close
     (tie.spec
-    decode-question-requires
-    slice-aggregate-result
+    (λ c κs. search needs)
+    (λ c. search needs)
     returns
     sub-result
     part-result-start
-    part-result-end
+    (λ c. search needs)
     returns-2)

@@ -5,7 +5,7 @@ use native.Mathlib.Omega.{arith}
 use borrow.Author.Tests.{le-leb, lt-leb}
 use Rattle.octets.specs.Question.{firstNo}
 use Rattle.octets.proofs.Questions.{passed, failed, refusal, acceptance}
-use Rattle.ethernet_decode.specs.declared.EthernetResult.the-variants.{Accepted, Refused}
+use Rattle.octets.specs.declared.AcceptResult.the-variants.{Accepted, Refused}
 use Rattle.ethernet_decode.specs.Decode.{validateQuestions, validate}
 use Rattle.ethernet_decode.proofs.Answers.{validated}
 use borrow.Author.Needs.{needs}
@@ -28,9 +28,6 @@ unfolding validate validateQuestions
 returns-2 c =
     validated _ (refusal Refused Accepted (passed 21 _ (le-leb _ _ (c .before .if1 .left)) (failed 24 _ (lt-leb _ _ (c .if2 .taken)))) (λ z. omega arith))
 
-header-question-requires : tie.Need-header-question-requires
-header-question-requires c κs = search needs
-
 returns-3 : tie.Need-returns-3
 unfolding validate
 returns-3 c = validated _ (refusal Refused Accepted (asked (c .before)) (c .if3 .taken))
@@ -41,4 +38,4 @@ returns-4 c = validated _ (acceptance Refused Accepted (asked (c .before)) (c .i
 
 pub validate-ethernet-frame-spec : {M : Type 1} → statement M
 validate-ethernet-frame-spec =
-    tie.close (tie.spec returns returns-2 header-question-requires returns-3 returns-4)
+    tie.close (tie.spec returns returns-2 (λ c κs. search needs) returns-3 returns-4)

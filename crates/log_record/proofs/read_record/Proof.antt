@@ -13,11 +13,8 @@ returns c = let s = c .before in what-ends _ (λ i. s .shared-slice-known .given
 returns-2 : tie.Need-returns-2
 returns-2 c = let s = c .before .before in what-ends _ (λ i. s .shared-slice-known .given i .fits) _ (at-start _ (omega (arith, c .if2 .taken)))
 
-record-before-requires : tie.Need-record-before-requires
-record-before-requires c κs = search needs
-
 returns-3 : tie.Need-returns-3
 returns-3 c = let s = c .before .before .before in what-ends _ (λ i. s .shared-slice-known .given i .fits) _ (c .record-before .ensures)
 
 pub read-record-spec : {M : Type 1} → statement M
-read-record-spec = tie.close (tie.spec returns returns-2 record-before-requires returns-3)
+read-record-spec = tie.close (tie.spec returns returns-2 (λ c κs. search needs) returns-3)

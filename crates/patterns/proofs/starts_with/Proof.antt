@@ -5,7 +5,7 @@ use mathlib.Core.Path.{_≡_, refl, sym, _∙_}
 use native.Mathlib.Omega.{arith}
 use lib.ListN.{length, drop}
 use Rattle.patterns.specs.Entries.{startsWith}
-use Rattle.patterns.proofs.Entries.{starts-end, starts-short, starts-other, starts-same}
+use Rattle.patterns.proofs.Starts.{starts-end, starts-short, starts-other, starts-same}
 use Rattle.patterns.proofs.starts_with.Statement.{statement}
 use Rattle.patterns.proofs.starts_with.Tie as tie
 

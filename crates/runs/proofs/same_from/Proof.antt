@@ -8,13 +8,10 @@ use borrow.Author.Needs.{needs}
 use Rattle.runs.proofs.same_from.Statement.{statement}
 use Rattle.runs.proofs.same_from.Tie as tie
 
-within-from-requires : tie.Need-within-from-requires
-within-from-requires c κs = search needs
-
 returns : tie.Need-returns
 returns c =
     let x = c .before .before .args .x in
     c .within-from .ensures ∙ front-alike (within x x) (is x) (within-same x) _
 
 pub same-from-spec : {M : Type 1} → statement M
-same-from-spec = tie.close (tie.spec within-from-requires returns)
+same-from-spec = tie.close (tie.spec (λ c κs. search needs) returns)

@@ -20,42 +20,21 @@ returns c =
     statistics-of _ (a .byte-distribution .ensures) (c .before .sum .ensures ∙ high-part _ (octets a) (a .byte-distribution .ensures))
     (c .longest-run .ensures .0)
 
-byte-distribution-requires : tie.Need-byte-distribution-requires
-byte-distribution-requires c κs = search needs
-
-array-read-null-bytes : tie.Need-array-read-null-bytes
-array-read-null-bytes c = search needs
-
-cast-null-bytes : tie.Need-cast-null-bytes
-cast-null-bytes c = search needs
-
-sub-sum : tie.Need-sub-sum
-sub-sum c = search needs
-
-part-sum-start : tie.Need-part-sum-start
-part-sum-start c = search needs
-
-part-sum-end : tie.Need-part-sum-end
-part-sum-end c = search needs
-
 sum-requires : tie.Need-sum-requires
 sum-requires c κs =
     let a = c .before .before in
     omega (arith, high-few _ (octets a) (a .byte-distribution .ensures))
 
-longest-run-requires : tie.Need-longest-run-requires
-longest-run-requires c κs = search needs
-
 pub frame-statistics-spec : {M : Type 1} → statement M
 frame-statistics-spec =
     tie.close
     (tie.spec
-    byte-distribution-requires
-    array-read-null-bytes
-    cast-null-bytes
-    sub-sum
-    part-sum-start
-    part-sum-end
+    (λ c κs. search needs)
+    (λ c. search needs)
+    (λ c. search needs)
+    (λ c. search needs)
+    (λ c. search needs)
+    (λ c. search needs)
     sum-requires
-    longest-run-requires
+    (λ c κs. search needs)
     returns)

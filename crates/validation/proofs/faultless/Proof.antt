@@ -7,30 +7,6 @@ use mathlib.Core.Path.{refl, ap, _∙_}
 use Rattle.validation.proofs.faultless.Statement.{statement}
 use Rattle.validation.proofs.faultless.Tie as tie
 
-link-of-requires : tie.Need-link-of-requires
-link-of-requires c κs = search needs
-
-enum-told : tie.Need-enum-told
-enum-told c = search needs
-
-enum-told-2 : tie.Need-enum-told-2
-enum-told-2 c = search needs
-
-faultless-requires : tie.Need-faultless-requires
-faultless-requires c κs = search needs
-
-enum-told-3 : tie.Need-enum-told-3
-enum-told-3 c = search needs
-
-faultless-requires-2 : tie.Need-faultless-requires-2
-faultless-requires-2 c κs = search needs
-
-enum-told-4 : tie.Need-enum-told-4
-enum-told-4 c = search needs
-
-faultless-requires-3 : tie.Need-faultless-requires-3
-faultless-requires-3 c κs = search needs
-
 returns : tie.Need-returns
 returns c = no-link-at-fault _ ∙ ap faultless (result-is _ _ (c .before .before .link-of .ensures) (c .enum-told .given .1) refl)
 
@@ -50,14 +26,14 @@ pub faultless-spec : {M : Type 1} → statement M
 faultless-spec =
     tie.close
     (tie.spec
-    link-of-requires
-    enum-told
-    enum-told-2
-    faultless-requires
-    enum-told-3
-    faultless-requires-2
-    enum-told-4
-    faultless-requires-3
+    (λ c κs. search needs)
+    (λ c. search needs)
+    (λ c. search needs)
+    (λ c κs. search needs)
+    (λ c. search needs)
+    (λ c κs. search needs)
+    (λ c. search needs)
+    (λ c κs. search needs)
     returns
     returns-2
     returns-3

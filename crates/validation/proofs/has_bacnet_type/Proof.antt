@@ -9,15 +9,6 @@ use Rattle.validation.proofs.has_bacnet_type.Tie as tie
 returns : tie.Need-returns
 returns c = no-type _ (c .if1 .taken)
 
-shared-slice-read-number : tie.Need-shared-slice-read-number
-shared-slice-read-number c = search needs
-
-shared-slice-read-number-2 : tie.Need-shared-slice-read-number-2
-shared-slice-read-number-2 c = search needs
-
-number-requires : tie.Need-number-requires
-number-requires c κs = search needs
-
 returns-2 : tie.Need-returns-2
 unfolding fieldOf
 returns-2 c = rw (c .number .ensures)
@@ -27,7 +18,7 @@ has-bacnet-type-spec =
     tie.close
     (tie.spec
     returns
-    shared-slice-read-number
-    shared-slice-read-number-2
-    number-requires
+    (λ c. search needs)
+    (λ c. search needs)
+    (λ c κs. search needs)
     returns-2)

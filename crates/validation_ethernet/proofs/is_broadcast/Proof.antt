@@ -11,12 +11,9 @@ use Rattle.validation_ethernet.proofs.is_broadcast.Tie as tie
 slice-aggregate-same-from : tie.Need-slice-aggregate-same-from
 slice-aggregate-same-from c = let a = c .before .before in sym (length-take-le 6 (a .args .frame .now) (omega (arith, a .pre)))
 
-same-from-requires : tie.Need-same-from-requires
-same-from-requires c κs = search needs
-
 returns : tie.Need-returns
 unfolding broadcast
 returns c = rw (c .same-from .ensures)
 
 pub is-broadcast-spec : {M : Type 1} → statement M
-is-broadcast-spec = tie.close (tie.spec slice-aggregate-same-from same-from-requires returns)
+is-broadcast-spec = tie.close (tie.spec slice-aggregate-same-from (λ c κs. search needs) returns)

@@ -6,24 +6,6 @@ use native.Mathlib.Omega.{arith}
 use Rattle.validation_ethernet.proofs.llc.Statement.{statement}
 use Rattle.validation_ethernet.proofs.llc.Tie as tie
 
-shared-slice-read-number : tie.Need-shared-slice-read-number
-shared-slice-read-number c = search needs
-
-shared-slice-read-number-2 : tie.Need-shared-slice-read-number-2
-shared-slice-read-number-2 c = search needs
-
-number-requires : tie.Need-number-requires
-number-requires c κs = search needs
-
-cast-result : tie.Need-cast-result
-cast-result c = search needs
-
-mul-result : tie.Need-mul-result
-mul-result c = search needs
-
-shared-slice-read-result : tie.Need-shared-slice-read-result
-shared-slice-read-result c = search needs
-
 cast-result-2 : tie.Need-cast-result-2
 cast-result-2 c = omega (arith, c .before .before .before .before .shared-slice-known .given 16 .fits)
 
@@ -38,12 +20,12 @@ pub llc-spec : {M : Type 1} → statement M
 llc-spec =
     tie.close
     (tie.spec
-    shared-slice-read-number
-    shared-slice-read-number-2
-    number-requires
-    cast-result
-    mul-result
-    shared-slice-read-result
+    (λ c. search needs)
+    (λ c. search needs)
+    (λ c κs. search needs)
+    (λ c. search needs)
+    (λ c. search needs)
+    (λ c. search needs)
     cast-result-2
     add-result
     returns)

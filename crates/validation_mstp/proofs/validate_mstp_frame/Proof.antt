@@ -1,65 +1,157 @@
--- `validation_mstp::validate_mstp_frame` meets its contract: too short alone, else the tests of errors and then those of warnings.
+-- `validation_mstp::validate_mstp_frame` meets its contract: too short alone, else what the tests store.
 -- Assumes nothing.
-use Rattle.validation_mstp.proofs.Answers.{too-short, checked}
-use borrow.Author.Needs.{needs}
+use mathlib.Core.Path.{refl}
+use Prim.Native.Nat.{_+_, _≤_}
 use native.Mathlib.Omega.{arith}
+use borrow.Author.Needs.{needs}
+use Rattle.findings.specs.declared.LinkType.the-variants.{MsTP}
+use Rattle.findings.proofs.Stored.{none, next, short-answer, stored-answer}
+use Rattle.validation_mstp.specs.Tests.{dataCheckTest, errorTests, warningTests, mstpErrors, mstpWarnings, mstpResult}
+use Rattle.validation_mstp.specs.Validity.{ValidAsRead}
+use Rattle.validation_mstp.proofs.NoError.{wrong-told}
+use Rattle.validation_mstp.proofs.Validity.{valid-as-read}
 use Rattle.validation_mstp.proofs.validate_mstp_frame.Statement.{statement}
 use Rattle.validation_mstp.proofs.validate_mstp_frame.Tie as tie
 
-new-requires : tie.Need-new-requires
-new-requires c κs = search needs
-
-error-if-requires : tie.Need-error-if-requires
-error-if-requires c κs = search needs
-
 returns : tie.Need-returns
+unfolding mstpResult mstpErrors mstpWarnings
 returns c =
-    let a = c .before .before in
-    too-short _ _ (λ i. a .before .shared-slice-known .given i .fits) (a .if1 .taken) (c .before .new .ensures) (c .error-if .ensures)
+    let a = c .before .before .before .args in
+    let s = a .frame .now in
+    short-answer MsTP _ 8 (errorTests (a .rule) s) (warningTests (a .rule) s) (ValidAsRead (a .rule) s)
+    (valid-as-read (a .rule) s (λ i. c .before .before .shared-slice-known .given i .fits)) (c .before .if1 .taken) (c .one-error .ensures)
 
-shared-slice-read-frame-type : tie.Need-shared-slice-read-frame-type
-shared-slice-read-frame-type c = search needs
+-- the first four tests find at most four
+few : (c : tie.After-one-if4)
+    → let second = c .before .before .before .before in
+    second .before .before .before .one-if .result + second .one-if2 .result + c .before .before .one-if3 .result + c .one-if4 .result ≤ 4
+few c = omega arith
 
-with-errors-requires : tie.Need-with-errors-requires
-with-errors-requires c κs = search needs
+add-o : tie.Need-add-o
+add-o c = omega (arith, few (c .before .before .before .before))
 
-cast-warning-if : tie.Need-cast-warning-if
-cast-warning-if c = omega (arith, c .before .before .before .shared-slice-known .given 2 .fits)
+mul-errors-6 : tie.Need-mul-errors-6
+mul-errors-6 c = omega (arith, few (c .before .before .before .before .before))
 
-warning-if-requires : tie.Need-warning-if-requires
-warning-if-requires c κs = search needs
+array-set-from-errors-7 : tie.Need-array-set-from-errors-7
+array-set-from-errors-7 c = omega (arith, few (c .before .before .before .before .before))
 
-shared-slice-read-master-to-slave : tie.Need-shared-slice-read-master-to-slave
-shared-slice-read-master-to-slave c = search needs
-
-shared-slice-read-master-to-slave-2 : tie.Need-shared-slice-read-master-to-slave-2
-shared-slice-read-master-to-slave-2 c = search needs
-
-master-to-slave-requires : tie.Need-master-to-slave-requires
-master-to-slave-requires c κs = search needs
-
-warning-if-requires-2 : tie.Need-warning-if-requires-2
-warning-if-requires-2 c κs = search needs
+add-error-count : tie.Need-add-error-count
+add-error-count c = omega (arith, few (c .before .before .before .before .before .before .before))
 
 returns-2 : tie.Need-returns-2
+unfolding mstpResult mstpErrors mstpWarnings errorTests dataCheckTest warningTests
 returns-2 c =
-    let w = c .before .before .before .before .before in
-    checked _ _ (λ i. w .before .before .before .shared-slice-known .given i .fits) (w .before .before .if1 .left) (w .with-errors .ensures)
-    (c .before .before .before .before .warning-if .ensures) (c .before .master-to-slave .ensures) (c .warning-if2 .ensures)
+    let last = c .before .before .before .before .before .before .before .before in
+    let sixth = last .before in
+    let fourth = sixth .before .before .before .before in
+    let second = fourth .before .before .before .before in
+    let first = second .before .before .before in
+    let read = first .before .before in
+    let type = read .before .before .before .before .before .before in
+    let a = type .before .before .before .before .args in
+    let s = a .frame .now in
+    stored-answer MsTP _ 8 (errorTests (a .rule) s) (warningTests (a .rule) s) (ValidAsRead (a .rule) s)
+    (valid-as-read (a .rule) s (λ i. type .before .before .before .shared-slice-known .given i .fits)) (type .before .before .if1 .left)
+    (rw (
+      ← type .before .preamble .ensures,
+      ← type .frame-type .ensures,
+      ← second .before .before .is-reserved .ensures,
+      ← read .before .before .before .before .before .source .ensures,
+      ← read .before .before .before .before .data-length .ensures,
+      ← read .before .before .before .header-check-sent .ensures,
+      ← read .before .before .fields-part .ensures,
+      ← read .before .header-crc .ensures .0,
+      ← read .frame-size .ensures .0,
+    )
+    (next _ _
+    (next _ _
+    (next _ _
+    (next _ _
+    (next _ _
+    (next _ _
+    (next _ _ (none 7) (omega arith) (first .before .entry-if .ensures) refl (first .one-if .ensures .0) (omega arith))
+    (omega arith) (second .before .entry-if2 .ensures) refl (second .one-if2 .ensures .0) refl)
+    (omega arith) (fourth .before .before .before .entry-if3 .ensures) refl (fourth .before .before .one-if3 .ensures .0) refl)
+    (omega arith) (fourth .before .entry-if4 .ensures) refl (fourth .one-if4 .ensures .0) refl)
+    (omega arith) (sixth .before .before .before .entry-if5 .ensures) refl (sixth .before .before .one-if5 .ensures .0) refl)
+    (omega arith) (sixth .before .entry-if6 .ensures) refl (sixth .one-if6 .ensures .0) refl)
+    (omega arith) (last .data-check-entry .ensures) refl
+    (rw (← (wrong-told (a .rule) s (last .data-check-entry .ensures))) (c .before .before .before .before .before .before .one-if7 .ensures .0)) refl))
+    (rw (
+      ← type .frame-type .ensures,
+      ← c .before .before .before .destination .ensures,
+      ← read .before .before .before .before .before .source .ensures,
+      ← c .before .before .master-to-slave .ensures,
+    )
+    (next _ _
+    (next _ _ (none 2) (omega arith) (c .before .before .before .before .before .entry-if7 .ensures) refl (c .before .before .before .before .one-if8 .ensures .0) (omega arith))
+    (omega arith) (c .before .entry-if8 .ensures) refl (c .one-if9 .ensures .0) refl))
+    refl
 
 pub validate-mstp-frame-spec : {M : Type 1} → statement M
 validate-mstp-frame-spec =
     tie.close
     (tie.spec
-    new-requires
-    error-if-requires
+    (λ c κs. search needs)
     returns
-    shared-slice-read-frame-type
-    with-errors-requires
-    cast-warning-if
-    warning-if-requires
-    shared-slice-read-master-to-slave
-    shared-slice-read-master-to-slave-2
-    master-to-slave-requires
-    warning-if-requires-2
+    (λ c κs. search needs)
+    (λ c. search needs)
+    (λ c κs. search needs)
+    (λ c. search needs)
+    (λ c κs. search needs)
+    (λ c κs. search needs)
+    (λ c κs. search needs)
+    (λ c κs. search needs)
+    (λ c κs. search needs)
+    (λ c κs. search needs)
+    (λ c κs. search needs)
+    (λ c. search needs)
+    (λ c κs. search needs)
+    (λ c κs. search needs)
+    (λ c κs. search needs)
+    (λ c. search needs)
+    (λ c. search needs)
+    (λ c κs. search needs)
+    (λ c. search needs)
+    (λ c. search needs)
+    (λ c κs. search needs)
+    (λ c. search needs)
+    (λ c. search needs)
+    (λ c κs. search needs)
+    (λ c. search needs)
+    (λ c. search needs)
+    (λ c. search needs)
+    (λ c κs. search needs)
+    (λ c. search needs)
+    (λ c. search needs)
+    (λ c κs. search needs)
+    (λ c. search needs)
+    (λ c. search needs)
+    (λ c. search needs)
+    (λ c κs. search needs)
+    (λ c. search needs)
+    (λ c. search needs)
+    (λ c κs. search needs)
+    (λ c. search needs)
+    (λ c κs. search needs)
+    (λ c. search needs)
+    (λ c. search needs)
+    (λ c κs. search needs)
+    add-o
+    (λ c κs. search needs)
+    mul-errors-6
+    array-set-from-errors-7
+    (λ c κs. search needs)
+    add-error-count
+    (λ c κs. search needs)
+    (λ c. search needs)
+    (λ c κs. search needs)
+    (λ c κs. search needs)
+    (λ c κs. search needs)
+    (λ c κs. search needs)
+    (λ c. search needs)
+    (λ c. search needs)
+    (λ c κs. search needs)
+    (λ c. search needs)
     returns-2)

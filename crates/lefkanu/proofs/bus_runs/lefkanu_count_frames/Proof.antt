@@ -2,8 +2,8 @@
 -- Assumes nothing.
 use mathlib.Core.Path.{_∙_}
 use native.Mathlib.Omega.{arith}
-use Rattle.reading.specs.Answer.{countAnswer}
-use Rattle.answers.specs.Told.{readNumber, readCount}
+use Rattle.run_reading.specs.Answer.{countAnswer}
+use Rattle.octets.specs.Answer.{countNumber, countOr}
 use Rattle.lefkanu.proofs.Cases.{no-rule, under}
 use borrow.Author.Needs.{needs}
 use Rattle.lefkanu.proofs.bus_runs.lefkanu_count_frames.Statement.{statement}
@@ -12,25 +12,16 @@ use Rattle.lefkanu.proofs.bus_runs.lefkanu_count_frames.Tie as tie
 returns : tie.Need-returns
 returns c = (no-rule _ _ _ (omega arith), no-rule _ _ _ (omega arith))
 
-rule-of-requires : tie.Need-rule-of-requires
-rule-of-requires c κs = search needs
-
-count-frames-requires : tie.Need-count-frames-requires
-count-frames-requires c κs = search needs
-
-tell-read-requires : tie.Need-tell-read-requires
-tell-read-requires c κs = search needs
-
 returns-2 : tie.Need-returns-2
 returns-2 c =
     let low = c .before .before .before .before .if1 .left in
     let named = c .before .before .before .rule-of .ensures in
     let e = c .before .before .count-frames .ensures .0 in (
-      c .tell-read .ensures .0 ∙ under _ (λ rule. countAnswer rule _) readNumber _ low named e,
-      c .tell-read .ensures .1 ∙ under _ (λ rule. countAnswer rule _) (readCount _) _ low named e,
+      c .tell-count .ensures .0 ∙ under _ (λ rule. countAnswer rule _) countNumber _ low named e,
+      c .tell-count .ensures .1 ∙ under _ (λ rule. countAnswer rule _) (countOr _) _ low named e,
     )
 
 pub lefkanu-count-frames-spec : {M : Type 1} → statement M
 lefkanu-count-frames-spec =
     tie.close
-    (tie.spec returns rule-of-requires count-frames-requires tell-read-requires returns-2)
+    (tie.spec returns (λ c κs. search needs) (λ c κs. search needs) (λ c κs. search needs) returns-2)

@@ -2,7 +2,7 @@
 -- Assumes nothing.
 use mathlib.Core.Path.{_∙_}
 use native.Mathlib.Omega.{arith}
-use Rattle.finder.specs.Search.{find}
+use Rattle.run_finder.specs.Search.{find}
 use Rattle.answers.specs.Told.{foundNumber, foundReport}
 use Rattle.lefkanu.proofs.Cases.{no-rule, under}
 use borrow.Author.Needs.{needs}
@@ -11,15 +11,6 @@ use Rattle.lefkanu.proofs.bus_runs.lefkanu_find_frame.Tie as tie
 
 returns : tie.Need-returns
 returns c = (no-rule _ _ _ (omega arith), no-rule _ _ _ (omega arith))
-
-rule-of-requires : tie.Need-rule-of-requires
-rule-of-requires c κs = search needs
-
-find-frame-requires : tie.Need-find-frame-requires
-find-frame-requires c κs = search needs
-
-tell-found-requires : tie.Need-tell-found-requires
-tell-found-requires c κs = search needs
 
 returns-2 : tie.Need-returns-2
 returns-2 c =
@@ -32,4 +23,4 @@ returns-2 c =
 
 pub lefkanu-find-frame-spec : {M : Type 1} → statement M
 lefkanu-find-frame-spec =
-    tie.close (tie.spec returns rule-of-requires find-frame-requires tell-found-requires returns-2)
+    tie.close (tie.spec returns (λ c κs. search needs) (λ c κs. search needs) (λ c κs. search needs) returns-2)

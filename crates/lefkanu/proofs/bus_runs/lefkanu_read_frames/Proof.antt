@@ -2,8 +2,8 @@
 -- Assumes nothing.
 use mathlib.Core.Path.{_∙_}
 use native.Mathlib.Omega.{arith}
-use Rattle.reading.specs.Answer.{readAnswer, readOutput}
-use Rattle.answers.specs.Told.{readNumber, readCount}
+use Rattle.run_reading.specs.Answer.{readAnswer, readOutput}
+use Rattle.octets.specs.Answer.{countNumber, countOr}
 use Rattle.lefkanu.proofs.Cases.{no-rule, under}
 use borrow.Author.Needs.{needs}
 use Rattle.lefkanu.proofs.bus_runs.lefkanu_read_frames.Statement.{statement}
@@ -12,27 +12,15 @@ use Rattle.lefkanu.proofs.bus_runs.lefkanu_read_frames.Tie as tie
 returns : tie.Need-returns
 returns c = (no-rule _ _ _ (omega arith), (no-rule _ _ _ (omega arith), no-rule _ _ _ (omega arith)))
 
-rule-of-requires : tie.Need-rule-of-requires
-rule-of-requires c κs = search needs
-
-read-frames-requires : tie.Need-read-frames-requires
-read-frames-requires c κs = search needs
-
-tell-read-requires : tie.Need-tell-read-requires
-tell-read-requires c κs = search needs
-
-same-length : tie.Need-same-length
-same-length c = search needs
-
 returns-2 : tie.Need-returns-2
 returns-2 c =
     let low = c .before .before .before .before .before .before .before .if1 .left in
     let named = c .before .before .before .before .before .before .rule-of .ensures in
     let answer = c .before .before .before .before .read-frames .ensures in (
-      c .tell-read .ensures .0 ∙ under _ (λ rule. readAnswer rule _ _) readNumber _ low named (answer .0),
+      c .tell-count .ensures .0 ∙ under _ (λ rule. readAnswer rule _ _) countNumber _ low named (answer .0),
       (
         under _ (λ rule. readOutput rule _ _) (λ out. out) _ low named (answer .1 .0),
-        c .tell-read .ensures .1 ∙ under _ (λ rule. readAnswer rule _ _) (readCount _) _ low named (answer .0),
+        c .tell-count .ensures .1 ∙ under _ (λ rule. readAnswer rule _ _) (countOr _) _ low named (answer .0),
       ),
     )
 
@@ -41,8 +29,8 @@ lefkanu-read-frames-spec =
     tie.close
     (tie.spec
     returns
-    rule-of-requires
-    read-frames-requires
-    tell-read-requires
-    same-length
+    (λ c κs. search needs)
+    (λ c κs. search needs)
+    (λ c κs. search needs)
+    (λ c. search needs)
     returns-2)

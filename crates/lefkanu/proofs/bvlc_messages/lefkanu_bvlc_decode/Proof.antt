@@ -6,16 +6,10 @@ use borrow.Author.Needs.{needs}
 use Rattle.lefkanu.proofs.bvlc_messages.lefkanu_bvlc_decode.Statement.{statement}
 use Rattle.lefkanu.proofs.bvlc_messages.lefkanu_bvlc_decode.Tie as tie
 
-decode-requires : tie.Need-decode-requires
-decode-requires c κs = search needs
-
-tell-bvlc-requires : tie.Need-tell-bvlc-requires
-tell-bvlc-requires c κs = search needs
-
 returns : tie.Need-returns
 returns c =
     let e = c .before .before .decode .ensures .0 in
     (c .tell-bvlc .ensures .0 ∙ ap bvlcNumber e, c .tell-bvlc .ensures .1 ∙ ap (bvlcHeader _) e)
 
 pub lefkanu-bvlc-decode-spec : {M : Type 1} → statement M
-lefkanu-bvlc-decode-spec = tie.close (tie.spec decode-requires tell-bvlc-requires returns)
+lefkanu-bvlc-decode-spec = tie.close (tie.spec (λ c κs. search needs) (λ c κs. search needs) returns)

@@ -7,12 +7,6 @@ use borrow.Author.Needs.{needs}
 use Rattle.lefkanu.proofs.bvlc_messages.lefkanu_process_bvlc_message.Statement.{statement}
 use Rattle.lefkanu.proofs.bvlc_messages.lefkanu_process_bvlc_message.Tie as tie
 
-process-bvlc-message-requires : tie.Need-process-bvlc-message-requires
-process-bvlc-message-requires c κs = search needs
-
-tell-message-requires : tie.Need-tell-message-requires
-tell-message-requires c κs = search needs
-
 returns : tie.Need-returns
 returns c =
     let e = c .before .before .process-bvlc-message .ensures in
@@ -21,4 +15,4 @@ returns c =
 
 pub lefkanu-process-bvlc-message-spec : {M : Type 1} → statement M
 lefkanu-process-bvlc-message-spec =
-    tie.close (tie.spec process-bvlc-message-requires tell-message-requires returns)
+    tie.close (tie.spec (λ c κs. search needs) (λ c κs. search needs) returns)

@@ -11,12 +11,6 @@ use Rattle.lefkanu.proofs.checks.lefkanu_calculate_header_crc.Tie as ti
 returns : tie.Need-returns
 returns c = (no-rule _ _ _ (omega arith), no-rule _ _ _ (omega arith))
 
-rule-of-requires : tie.Need-rule-of-requires
-rule-of-requires c κs = search needs
-
-calculate-header-crc-requires : tie.Need-calculate-header-crc-requires
-calculate-header-crc-requires c κs = search needs
-
 returns-2 : tie.Need-returns-2
 returns-2 c =
     let low = c .before .before .before .if1 .left in
@@ -25,4 +19,4 @@ returns-2 c =
 
 pub lefkanu-calculate-header-crc-spec : {M : Type 1} → statement M
 lefkanu-calculate-header-crc-spec =
-    tie.close (tie.spec returns rule-of-requires calculate-header-crc-requires returns-2)
+    tie.close (tie.spec returns (λ c κs. search needs) (λ c κs. search needs) returns-2)

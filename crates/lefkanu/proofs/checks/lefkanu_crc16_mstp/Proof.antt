@@ -11,12 +11,6 @@ use Rattle.lefkanu.proofs.checks.lefkanu_crc16_mstp.Tie as tie
 returns : tie.Need-returns
 returns c = (no-rule _ _ _ (omega arith), no-rule _ _ _ (omega arith))
 
-rule-of-requires : tie.Need-rule-of-requires
-rule-of-requires c κs = search needs
-
-crc16-mstp-requires : tie.Need-crc16-mstp-requires
-crc16-mstp-requires c κs = search needs
-
 returns-2 : tie.Need-returns-2
 returns-2 c =
     let low = c .before .before .if1 .left in
@@ -25,4 +19,4 @@ returns-2 c =
 
 pub lefkanu-crc16-mstp-spec : {M : Type 1} → statement M
 lefkanu-crc16-mstp-spec =
-    tie.close (tie.spec returns rule-of-requires crc16-mstp-requires returns-2)
+    tie.close (tie.spec returns (λ c κs. search needs) (λ c κs. search needs) returns-2)

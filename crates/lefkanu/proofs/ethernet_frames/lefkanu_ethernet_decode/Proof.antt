@@ -7,12 +7,6 @@ use borrow.Author.Needs.{needs}
 use Rattle.lefkanu.proofs.ethernet_frames.lefkanu_ethernet_decode.Statement.{statement}
 use Rattle.lefkanu.proofs.ethernet_frames.lefkanu_ethernet_decode.Tie as tie
 
-decode-requires : tie.Need-decode-requires
-decode-requires c κs = search needs
-
-tell-ethernet-requires : tie.Need-tell-ethernet-requires
-tell-ethernet-requires c κs = search needs
-
 returns : tie.Need-returns
 returns c =
     let e = c .before .before .before .before .decode .ensures .0 in
@@ -30,4 +24,4 @@ returns c =
     )
 
 pub lefkanu-ethernet-decode-spec : {M : Type 1} → statement M
-lefkanu-ethernet-decode-spec = tie.close (tie.spec decode-requires tell-ethernet-requires returns)
+lefkanu-ethernet-decode-spec = tie.close (tie.spec (λ c κs. search needs) (λ c κs. search needs) returns)

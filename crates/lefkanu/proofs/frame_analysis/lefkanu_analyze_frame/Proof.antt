@@ -13,18 +13,6 @@ use Rattle.lefkanu.proofs.frame_analysis.lefkanu_analyze_frame.Tie as t
 returns : tie.Need-returns
 returns c = (no-rule _ _ _ (omega arith), (no-rule _ _ _ (omega arith), (no-rule _ _ _ (omega arith), (no-rule _ _ _ (omega arith), (no-rule _ _ _ (omega arith), no-rule _ _ _ (omega arith))))))
 
-rule-of-requires : tie.Need-rule-of-requires
-rule-of-requires c κs = search needs
-
-analyze-frame-requires : tie.Need-analyze-frame-requires
-analyze-frame-requires c κs = search needs
-
-tell-analysis-requires : tie.Need-tell-analysis-requires
-tell-analysis-requires c κs = search needs
-
-same-length : tie.Need-same-length
-same-length c = search needs
-
 returns-2 : tie.Need-returns-2
 returns-2 c =
     let low = c .before .before .before .before .before .before .before .before .before .before .if1 .left in
@@ -55,8 +43,8 @@ lefkanu-analyze-frame-spec =
     tie.close
     (tie.spec
     returns
-    rule-of-requires
-    analyze-frame-requires
-    tell-analysis-requires
-    same-length
+    (λ c κs. search needs)
+    (λ c κs. search needs)
+    (λ c κs. search needs)
+    (λ c. search needs)
     returns-2)

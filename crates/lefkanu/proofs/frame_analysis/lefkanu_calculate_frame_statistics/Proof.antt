@@ -8,12 +8,6 @@ use Rattle.lefkanu.proofs.frame_analysis.lefkanu_calculate_frame_statis
 }
 use Rattle.lefkanu.proofs.frame_analysis.lefkanu_calculate_frame_statistics.Tie as tie
 
-calculate-frame-statistics-requires : tie.Need-calculate-frame-statistics-requires
-calculate-frame-statistics-requires c κs = search needs
-
-tell-statistics-requires : tie.Need-tell-statistics-requires
-tell-statistics-requires c κs = search needs
-
 returns : tie.Need-returns
 returns c =
     let e = c .before .before .before .calculate-frame-statistics .ensures .0 in
@@ -22,4 +16,4 @@ returns c =
 
 pub lefkanu-calculate-frame-statistics-spec : {M : Type 1} → statement M
 lefkanu-calculate-frame-statistics-spec =
-    tie.close (tie.spec calculate-frame-statistics-requires tell-statistics-requires returns)
+    tie.close (tie.spec (λ c κs. search needs) (λ c κs. search needs) returns)

@@ -7,12 +7,6 @@ use borrow.Author.Needs.{needs}
 use Rattle.lefkanu.proofs.log_records.lefkanu_read_record.Statement.{statement}
 use Rattle.lefkanu.proofs.log_records.lefkanu_read_record.Tie as tie
 
-read-record-requires : tie.Need-read-record-requires
-read-record-requires c κs = search needs
-
-tell-record-requires : tie.Need-tell-record-requires
-tell-record-requires c κs = search needs
-
 returns : tie.Need-returns
 returns c =
     let e = c .before .before .read-record .ensures .0 in
@@ -21,4 +15,4 @@ returns c =
     (number, (found, λ zero. rw found (record-named _ _ _ (sym number ∙ zero))))
 
 pub lefkanu-read-record-spec : {M : Type 1} → statement M
-lefkanu-read-record-spec = tie.close (tie.spec read-record-requires tell-record-requires returns)
+lefkanu-read-record-spec = tie.close (tie.spec (λ c κs. search needs) (λ c κs. search needs) returns)

@@ -6,15 +6,9 @@ use borrow.Author.Needs.{needs}
 use Rattle.lefkanu.proofs.mstp_frames.lefkanu_data_link_error.Statement.{statement}
 use Rattle.lefkanu.proofs.mstp_frames.lefkanu_data_link_error.Tie as tie
 
-data-link-error-requires : tie.Need-data-link-error-requires
-data-link-error-requires c κs = search needs
-
-error-number-requires : tie.Need-error-number-requires
-error-number-requires c κs = search needs
-
 returns : tie.Need-returns
 returns c = c .error-number .ensures ∙ ap errorNumber (c .before .data-link-error .ensures)
 
 pub lefkanu-data-link-error-spec : {M : Type 1} → statement M
 lefkanu-data-link-error-spec =
-    tie.close (tie.spec data-link-error-requires error-number-requires returns)
+    tie.close (tie.spec (λ c κs. search needs) (λ c κs. search needs) returns)

@@ -13,15 +13,6 @@ use Rattle.lefkanu.proofs.mstp_frames.lefkanu_mstp_decode.Tie as tie
 returns : tie.Need-returns
 returns c = (no-rule _ _ _ (omega arith), (no-rule _ _ _ (omega arith), λ zero. absurd (omega arith)))
 
-rule-of-requires : tie.Need-rule-of-requires
-rule-of-requires c κs = search needs
-
-decode-requires : tie.Need-decode-requires
-decode-requires c κs = search needs
-
-tell-mstp-requires : tie.Need-tell-mstp-requires
-tell-mstp-requires c κs = search needs
-
 returns-2 : tie.Need-returns-2
 returns-2 c =
     let low = c .before .before .before .before .if1 .left in
@@ -37,4 +28,4 @@ returns-2 c =
 
 pub lefkanu-mstp-decode-spec : {M : Type 1} → statement M
 lefkanu-mstp-decode-spec =
-    tie.close (tie.spec returns rule-of-requires decode-requires tell-mstp-requires returns-2)
+    tie.close (tie.spec returns (λ c κs. search needs) (λ c κs. search needs) (λ c κs. search needs) returns-2)

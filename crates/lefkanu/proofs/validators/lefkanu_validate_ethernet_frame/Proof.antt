@@ -7,22 +7,10 @@ use borrow.Author.Needs.{needs}
 use Rattle.lefkanu.proofs.validators.lefkanu_validate_ethernet_frame.Statement.{statement}
 use Rattle.lefkanu.proofs.validators.lefkanu_validate_ethernet_frame.Tie as tie
 
-faultless-requires : tie.Need-faultless-requires
-faultless-requires c κs = search needs
-
-clean-numbers-requires : tie.Need-clean-numbers-requires
-clean-numbers-requires c κs = search needs
-
 returns : tie.Need-returns
 returns c =
     c .clean-numbers .ensures
     ∙ ap resultNumbers (clean-frame _ (sym (c .before .before .faultless .ensures) ∙ c .before .if1 .taken))
-
-validate-ethernet-frame-requires : tie.Need-validate-ethernet-frame-requires
-validate-ethernet-frame-requires c κs = search needs
-
-result-numbers-requires : tie.Need-result-numbers-requires
-result-numbers-requires c κs = search needs
 
 returns-2 : tie.Need-returns-2
 returns-2 c = c .result-numbers .ensures ∙ ap resultNumbers (c .before .validate-ethernet-frame .ensures .0)
@@ -31,9 +19,9 @@ pub lefkanu-validate-ethernet-frame-spec : {M : Type 1} → statement M
 lefkanu-validate-ethernet-frame-spec =
     tie.close
     (tie.spec
-    faultless-requires
-    clean-numbers-requires
+    (λ c κs. search needs)
+    (λ c κs. search needs)
     returns
-    validate-ethernet-frame-requires
-    result-numbers-requires
+    (λ c κs. search needs)
+    (λ c κs. search needs)
     returns-2)

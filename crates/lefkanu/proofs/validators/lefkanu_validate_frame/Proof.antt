@@ -13,18 +13,6 @@ use Rattle.lefkanu.proofs.validators.lefkanu_validate_frame.Tie as tie
 returns : tie.Need-returns
 returns c = (no-rule _ _ _ (omega arith), no-rule _ _ _ (omega arith))
 
-rule-of-requires : tie.Need-rule-of-requires
-rule-of-requires c κs = search needs
-
-faultless-requires : tie.Need-faultless-requires
-faultless-requires c κs = search needs
-
-link-of-requires : tie.Need-link-of-requires
-link-of-requires c κs = search needs
-
-clean-numbers-requires : tie.Need-clean-numbers-requires
-clean-numbers-requires c κs = search needs
-
 returns-2 : tie.Need-returns-2
 returns-2 c =
     let a = c .before .before in
@@ -34,12 +22,6 @@ returns-2 c =
       under _ (λ _. 0) (λ n. n) _ low named refl,
       c .clean-numbers .ensures ∙ under _ (λ rule. frameResult rule _) resultNumbers _ low named none,
     )
-
-validate-frame-requires : tie.Need-validate-frame-requires
-validate-frame-requires c κs = search needs
-
-result-numbers-requires : tie.Need-result-numbers-requires
-result-numbers-requires c κs = search needs
 
 returns-3 : tie.Need-returns-3
 returns-3 c =
@@ -55,11 +37,11 @@ lefkanu-validate-frame-spec =
     tie.close
     (tie.spec
     returns
-    rule-of-requires
-    faultless-requires
-    link-of-requires
-    clean-numbers-requires
+    (λ c κs. search needs)
+    (λ c κs. search needs)
+    (λ c κs. search needs)
+    (λ c κs. search needs)
     returns-2
-    validate-frame-requires
-    result-numbers-requires
+    (λ c κs. search needs)
+    (λ c κs. search needs)
     returns-3)

@@ -13,15 +13,6 @@ use Rattle.lefkanu.proofs.validators.lefkanu_validate_mstp_frame.Tie as
 returns : tie.Need-returns
 returns c = (no-rule _ _ _ (omega arith), no-rule _ _ _ (omega arith))
 
-rule-of-requires : tie.Need-rule-of-requires
-rule-of-requires c κs = search needs
-
-faultless-requires : tie.Need-faultless-requires
-faultless-requires c κs = search needs
-
-clean-numbers-requires : tie.Need-clean-numbers-requires
-clean-numbers-requires c κs = search needs
-
 returns-2 : tie.Need-returns-2
 returns-2 c =
     let a = c .before in
@@ -31,12 +22,6 @@ returns-2 c =
       under _ (λ _. 0) (λ n. n) _ low named refl,
       c .clean-numbers .ensures ∙ under _ (λ rule. mstpResult rule _) resultNumbers _ low named none,
     )
-
-validate-mstp-frame-requires : tie.Need-validate-mstp-frame-requires
-validate-mstp-frame-requires c κs = search needs
-
-result-numbers-requires : tie.Need-result-numbers-requires
-result-numbers-requires c κs = search needs
 
 returns-3 : tie.Need-returns-3
 returns-3 c =
@@ -52,10 +37,10 @@ lefkanu-validate-mstp-frame-spec =
     tie.close
     (tie.spec
     returns
-    rule-of-requires
-    faultless-requires
-    clean-numbers-requires
+    (λ c κs. search needs)
+    (λ c κs. search needs)
+    (λ c κs. search needs)
     returns-2
-    validate-mstp-frame-requires
-    result-numbers-requires
+    (λ c κs. search needs)
+    (λ c κs. search needs)
     returns-3)

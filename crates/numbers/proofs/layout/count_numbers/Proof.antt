@@ -5,12 +5,9 @@ use Rattle.numbers.specs.Layout.{countNumbers}
 use Rattle.numbers.proofs.layout.count_numbers.Statement.{statement}
 use Rattle.numbers.proofs.layout.count_numbers.Tie as tie
 
-wide-requires : tie.Need-wide-requires
-wide-requires c κs = search needs
-
 returns : tie.Need-returns
 unfolding countNumbers
 returns c = cc
 
 pub count-numbers-spec : {M : Type 1} → statement M
-count-numbers-spec = tie.close (tie.spec wide-requires returns)
+count-numbers-spec = tie.close (tie.spec (λ c κs. search needs) returns)

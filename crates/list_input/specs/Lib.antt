@@ -1,2 +1,0 @@
-pub mod Room
-pub mod Printed

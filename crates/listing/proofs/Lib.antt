@@ -1,5 +1,0 @@
-pub mod Puts
-pub mod Decimals
-pub mod Records
-pub mod Lines
-pub mod Listings

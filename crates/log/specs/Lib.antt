@@ -1,3 +1,0 @@
-pub mod Append
-pub mod Reading
-pub mod Written

@@ -1,9 +1,0 @@
-pub mod Frames
-pub mod Pass
-pub mod Late
-pub mod Anew
-pub mod Demand
-pub mod Handed
-pub mod Loops
-pub mod Examples
-pub mod Answers

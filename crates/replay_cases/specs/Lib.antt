@@ -1,0 +1,2 @@
+pub mod Digit
+pub mod Rule

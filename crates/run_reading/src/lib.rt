@@ -1,0 +1,86 @@
+// The whole reading of a run: the finder's calls from place 0, each next from the last report's end, until "none".
+use crc::CheckRule;
+use mstp_frame::MSTP_HEADER_SIZE;
+use octets::CountResult;
+ghost use mathlib.Core.Path.{_≡_};
+ghost use Prim.Native.Nat.{_+_, _*_, _≤_, _<_, _/_};
+ghost use lib.ListN.{length, set, take};
+ghost use Rattle.octets.specs.Output.{atFront};
+ghost use Rattle.run_reading.specs.Reading.{WholeReading, reading};
+ghost use Rattle.run_reading.specs.Answer.{countAnswer, listNumbers, readAnswer, readOutput, CountOf, Handed};
+ghost use Rattle.run_reading.specs.Demand.{Demand3};
+ghost use Rattle.run_reading.specs.Example.{Example};
+
+// Stores place and octet count of a frame behind those of n others.
+fn store(out: &mut [u32], n: usize, place: usize, count: usize)
+    requires { ⌜ (2 * n + 1 < length (now out)) × (place + count ≤ 65535) ⌝ }
+    ensures { λ _. ⌜ now (out .exit) ≡ set (set (now (out .entry)) (2 * n) place) (2 * n + 1) count ⌝ }
+{
+    out[2 * n] = place as u32;
+    out[2 * n + 1] = count as u32;
+}
+
+// Stores place and octet count of each frame at the front of a list, as many as it has room for, and answers how many
+// frames there are.
+fn store_reports(rule: CheckRule, run: &[u8], out: &mut [u32]) -> usize
+    requires { ⌜ length (now run) ≤ 65535 ⌝ }
+    ensures { λ r. ⌜ r ≡ length (reading rule (now (run .entry))) ⌝ }
+    ensures output { λ r. ⌜ now (out .exit)
+        ≡ atFront (listNumbers (take (length (now (out .entry)) / 2) (reading rule (now (run .entry))))) (now (out .entry)) ⌝ }
+{
+    let mut n: usize = 0;
+    let mut p = run_finder::next_frame(rule, run, 0);
+    while p < run.len() {
+        let size = run_finder::size_at(run, p);
+        if n < out.len() / 2 {
+            store(out, n, p, size);
+        }
+        n += 1;
+        p = run_finder::next_frame(rule, run, p + size);
+    }
+    n
+}
+
+// How many frames a run has: none of them stored.
+fn count_reports(rule: CheckRule, run: &[u8]) -> usize
+    requires { ⌜ length (now run) ≤ 65535 ⌝ }
+    ensures { λ r. ⌜ r ≡ length (reading rule (now (run .entry))) ⌝ }
+{
+    let mut none: [u32; 0] = [];
+    store_reports(rule, run, &mut none)
+}
+
+// How many frames a whole reading of a run finds, or the question that fails. Demand 3: of a run that begins with damage
+// and is filled to its end by written frames, the reports that start 510 or more octets after the damage are exactly the
+// frames that start there, and every report passes every check.
+pub fn count_frames(rule: CheckRule, run: &[u8]) -> CountResult
+    ensures { λ r. ⌜ r ≡ countAnswer rule (now (run .entry)) ⌝ }
+    ensures calls { λ r. ⌜ CountOf (WholeReading rule (now (run .entry))) r ⌝ }
+    ensures demand { λ r. ⌜ Demand3 rule (now (run .entry)) r (reading rule (now (run .entry))) ⌝ }
+    ensures example { λ r. ⌜ Example ⌝ }
+{
+    if !octets::at_most_65535(run.len()) {
+        return CountResult::Refused(31);
+    }
+    CountResult::Count(count_reports(rule, run))
+}
+
+// Writes two numbers, place and octet count, for each frame of a whole reading at the front of `out`, whose rest stays,
+// and answers how many frames there are. Or answers the question that fails, and writes nothing.
+pub fn read_frames(rule: CheckRule, run: &[u8], out: &mut [u32]) -> CountResult
+    ensures { λ r. ⌜ r ≡ readAnswer rule (now (run .entry)) (now (out .entry)) ⌝ }
+    ensures output { λ r. ⌜ now (out .exit) ≡ readOutput rule (now (run .entry)) (now (out .entry)) ⌝ }
+    ensures calls { λ r. ⌜ Handed (WholeReading rule (now (run .entry))) r (now (out .exit)) ⌝ }
+    ensures demand { λ r. ⌜ Handed (Demand3 rule (now (run .entry)) r) r (now (out .exit)) ⌝ }
+{
+    if !octets::at_most_65535(run.len()) {
+        return CountResult::Refused(31);
+    }
+    // a frame has a header: a list with room for one in every 8 octets needs no counting
+    if out.len() / 2 < run.len() / MSTP_HEADER_SIZE {
+        if out.len() / 2 < count_reports(rule, run) {
+            return CountResult::Refused(32);
+        }
+    }
+    CountResult::Count(store_reports(rule, run, out))
+}

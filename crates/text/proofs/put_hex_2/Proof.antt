@@ -1,0 +1,19 @@
+-- `text::put_hex_2` meets its contract: the digits are the number's.
+-- Assumes nothing.
+use borrow.Author.Needs.{needs}
+use Rattle.text.proofs.put_hex_2.Statement.{statement}
+use Rattle.text.proofs.put_hex_2.Tie as tie
+
+returns : tie.Need-returns
+returns c = (cc, cc)
+
+pub put-hex-2-spec : {M : Type 1} → statement M
+put-hex-2-spec =
+    tie.close
+    (tie.spec
+    (λ c κs. search needs)
+    (λ c κs. search needs)
+    (λ c. search needs)
+    (λ c κs. search needs)
+    (λ c. search needs)
+    returns)
