@@ -31,12 +31,32 @@ pub fn broken(octets: Octets) -> Octets {
     with(octets, &[(last, octets[last] ^ 0x10)])
 }
 
+// The MS/TP frame with another header check.
+pub fn header_broken(frame: Octets) -> Octets {
+    with(frame, &[(7, frame[7] ^ 0x01)])
+}
+
 // An MS/TP frame of so many octets, 8 or more than 10, under the house rule. Above 511 none is
 // written, but the reader takes them.
 pub fn mstp(size: usize) -> Octets {
+    mstp_to(16, size)
+}
+
+// The same from a master to a slave.
+pub fn to_slave(size: usize) -> Octets {
+    mstp_to(200, size)
+}
+
+fn mstp_to(destination: u8, size: usize) -> Octets {
     let data = octets(size.saturating_sub(10));
     let [high, low] = (data.len() as u16).to_be_bytes();
-    let header = [if data.is_empty() { 0 } else { 6 }, 16, 5, high, low];
+    let header = [
+        if data.is_empty() { 0 } else { 6 },
+        destination,
+        5,
+        high,
+        low,
+    ];
     let mut frame = vec![0x55, 0xFF];
     frame.extend(header);
     frame.push(opened_header_crc(&header));
@@ -49,8 +69,7 @@ pub fn mstp(size: usize) -> Octets {
 
 // An MS/TP frame of so many octets whose type, source and checks are wrong.
 pub fn bad_mstp(size: usize) -> Octets {
-    let frame = broken(mstp(size));
-    with(frame, &[(2, 0x20), (4, 0xFF), (7, frame[7] ^ 0x01)])
+    with(header_broken(broken(mstp(size))), &[(2, 0x20), (4, 0xFF)])
 }
 
 // A BVLC message of so many octets that carries an NPDU.

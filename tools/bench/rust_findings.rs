@@ -67,6 +67,10 @@ fn warning(warning: &ValidationWarning) -> Entry {
         ValidationWarning::NonStandardConfiguration { reason } if reason.starts_with("Multi") => {
             [3, 3, 0]
         }
+        ValidationWarning::NonStandardConfiguration { reason } if reason.starts_with("Master") => {
+            [3, 2, 0]
+        }
+        ValidationWarning::SecurityWarning { reason } if reason.starts_with("Secure") => [4, 1, 0],
         _ => panic!("a warning that no row has: {warning:?}"),
     }
 }

@@ -10,7 +10,10 @@ use crate::ffi::{
     lefkanu_validate_bacnet_ip_frame, lefkanu_validate_ethernet_frame, lefkanu_validate_frame,
     lefkanu_validate_mstp_frame, RESULT_NUMBERS,
 };
-use crate::frames::{bad_bvlc, bad_ethernet, bad_mstp, bvlc, ethernet, mstp, with, Octets};
+use crate::frames::{
+    bad_bvlc, bad_ethernet, bad_mstp, broken, bvlc, ethernet, header_broken, mstp, to_slave, with,
+    Octets,
+};
 use crate::row::{lent, now, sizes_to, Row, SIZES};
 use crate::rust_findings::told;
 use crate::HOUSE;
@@ -25,8 +28,9 @@ const MSTP_MOST: usize = 511;
 const IP_MOST: usize = 1_497;
 const ETHERNET_MOST: usize = 1_514;
 
-// The least octets of an Ethernet frame's header.
+// The least octets of an Ethernet frame's header, and what a short frame is padded to.
 const ETHERNET_LEAST: usize = 17;
+const ETHERNET_PADDED: usize = 60;
 
 pub fn rows() -> Vec<Row> {
     let mut rows: Vec<Row> = sizes_to(MSTP_MOST)
@@ -36,8 +40,26 @@ pub fn rows() -> Vec<Row> {
         let frame = with(bad_mstp(size), &[(0, 0x56)]);
         mstp_row("validate MS/TP, errors", frame)
     }));
+    rows.extend(sizes_to(MSTP_MOST).map(|size| {
+        mstp_row(
+            "validate MS/TP, header check wrong",
+            header_broken(mstp(size)),
+        )
+    }));
+    rows.extend(
+        sizes_to(MSTP_MOST)
+            .skip(1)
+            .map(|size| mstp_row("validate MS/TP, data check wrong", broken(mstp(size)))),
+    );
+    rows.extend(
+        sizes_to(MSTP_MOST).map(|size| mstp_row("validate MS/TP, to a slave", to_slave(size))),
+    );
     rows.extend(sizes_to(ETHERNET_MOST).map(|size| ip_row("validate IP", bvlc(size.min(IP_MOST)))));
     rows.extend(SIZES.map(|size| ip_row("validate IP, errors", bad_bvlc(size))));
+    rows.push(ip_row(
+        "validate IP, secure BVLL",
+        with(bvlc(8), &[(1, 0x0C)]),
+    ));
     rows.extend(sizes_to(ETHERNET_MOST).map(|size| {
         let frame = ethernet(size.max(ETHERNET_LEAST));
         ethernet_row("validate Ethernet", frame)
@@ -46,8 +68,20 @@ pub fn rows() -> Vec<Row> {
         let frame = bad_ethernet(size.max(ETHERNET_LEAST));
         ethernet_row("validate Ethernet, errors", frame)
     }));
+    rows.push(ethernet_row(
+        "validate Ethernet, padded to 60",
+        ethernet(ETHERNET_PADDED),
+    ));
     rows.extend(sizes_to(MSTP_MOST).map(|size| frame_row("validate any link", mstp(size))));
     rows.extend(SIZES.map(|size| frame_row("validate any link, errors", bad_mstp(size))));
+    rows.push(frame_row(
+        "validate any link, header check wrong",
+        header_broken(mstp(8)),
+    ));
+    rows.push(frame_row(
+        "validate any link, padded to 60",
+        ethernet(ETHERNET_PADDED),
+    ));
     rows
 }
 
