@@ -28,9 +28,7 @@ pub header-question-spec : {M : Type 1} → statement M
 header-question-spec =
     tie.close
     (tie.spec
-    (λ c. search needs)
-    (λ c. search needs)
-    (λ c κs. search needs)
+    (λ c. search needs) (λ c. search needs) (λ c κs. search needs)
     returns
     (λ c κs. search needs)
     returns-2

@@ -59,8 +59,7 @@ append-spec =
     returns-2
     (λ c κs. search needs)
     returns-3
-    (λ c. search needs)
-    (λ c. search needs)
+    (λ c. search needs) (λ c. search needs)
     returns-4
     put-record-requires
     (λ c. search needs)

@@ -58,7 +58,6 @@ find-frame-spec =
     (λ c κs. search needs)
     returns
     returns-2
-    (λ c κs. search needs)
-    (λ c κs. search needs)
+    (λ c κs. search needs) (λ c κs. search needs)
     returns-3
     returns-4)

@@ -29,11 +29,7 @@ pub frame-statistics-spec : {M : Type 1} → statement M
 frame-statistics-spec =
     tie.close
     (tie.spec
-    (λ c κs. search needs)
-    (λ c. search needs)
-    (λ c. search needs)
-    (λ c. search needs)
-    (λ c. search needs)
+    (λ c κs. search needs) (λ c. search needs) (λ c. search needs) (λ c. search needs) (λ c. search needs)
     (λ c. search needs)
     sum-requires
     (λ c κs. search needs)

@@ -19,9 +19,7 @@ pub lefkanu-validate-bacnet-ip-frame-spec : {M : Type 1} → statement M
 lefkanu-validate-bacnet-ip-frame-spec =
     tie.close
     (tie.spec
-    (λ c κs. search needs)
-    (λ c κs. search needs)
+    (λ c κs. search needs) (λ c κs. search needs)
     returns
-    (λ c κs. search needs)
-    (λ c κs. search needs)
+    (λ c κs. search needs) (λ c κs. search needs)
     returns-2)

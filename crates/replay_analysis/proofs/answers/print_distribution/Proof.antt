@@ -11,11 +11,6 @@ print-distribution-spec =
     (tie.spec
     (λ byte-distribution value₀ value. Unit {0})
     (λ byte-distribution value₀ value. 256 - value)
-    (λ c. search needs)
-    (λ c. search needs)
-    (λ c. search needs)
-    (λ c κs. search needs)
-    (λ c. search needs)
-    (λ c. search needs)
-    (λ c. search needs)
+    (λ c. search needs) (λ c. search needs) (λ c. search needs) (λ c κs. search needs) (λ c. search needs)
+    (λ c. search needs) (λ c. search needs)
     (λ c. search needs))

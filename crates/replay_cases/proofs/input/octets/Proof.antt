@@ -28,17 +28,11 @@ octets-spec =
     (tie.spec
     Inv-loop
     μ-loop
-    (λ c. search needs)
-    (λ c. search needs)
+    (λ c. search needs) (λ c. search needs)
     (λ c. (counts _ _ (omega arith), (search needs, search needs)))
-    (λ c κs. search needs)
-    (λ c. search needs)
+    (λ c κs. search needs) (λ c. search needs)
     (λ c. (counts _ _ (omega arith), (search needs, search needs)))
-    (λ c κs. search needs)
-    (λ c κs. search needs)
-    (λ c. search needs)
-    (λ c. search needs)
-    (λ c. search needs)
+    (λ c κs. search needs) (λ c κs. search needs) (λ c. search needs) (λ c. search needs) (λ c. search needs)
     (λ c. ((simp length-set (omega arith), omega arith), (simp length-set (omega arith), search (needs, one-more))))
     (λ c. search needs)
     (λ c. (counts _ _ (omega arith), (search needs, search needs))))

@@ -15,11 +15,6 @@ run-spec =
     (tie.spec
     (λ out₀ pieces n₀ counter₀ out n counter. (n ≤ length out) × (length out ≡ length out₀))
     (λ out₀ pieces n₀ counter₀ out n counter. pieces - counter)
-    (λ c κs. search needs)
-    (λ c. search needs)
-    (λ c κs. search needs)
-    (λ c. search needs)
-    (λ c. search needs)
-    (λ c. search needs)
-    (λ c. search needs)
+    (λ c κs. search needs) (λ c. search needs) (λ c κs. search needs) (λ c. search needs) (λ c. search needs)
+    (λ c. search needs) (λ c. search needs)
     (λ c. counts _ _ (omega arith)))
