@@ -1,17 +1,19 @@
 // The rows of statistics, patterns and analysis. The Rust's statistics have an entropy besides; it
 // makes lists of the patterns, with a text's octets.
 
-use crate::datalink::validation::{
+use bacnet::datalink::validation::{
     analyze_frame, opened_patterns, opened_statistics, FrameAnalysis, FrameStatistics, Pattern,
 };
-use crate::ffi::{
+use ffi::{
     lefkanu_analyze_frame, lefkanu_calculate_frame_statistics, lefkanu_detect_patterns,
     RESULT_NUMBERS,
 };
+use shared::rust::analysis as told;
+use shared::rust::findings;
+
 use crate::frames::{mstp, octets, Octets};
 use crate::row::{front, lent, lent_list, now, pointer, Row, SIZES};
-use crate::rust_findings::told;
-use crate::HOUSE;
+use crate::rules::HOUSE;
 
 pub fn rows() -> Vec<Row> {
     let mut rows = Vec::from(SIZES.map(|size| statistics(octets(size))));
@@ -46,10 +48,10 @@ fn statistics(frame: Octets) -> Row {
 
 // Panics unless both sides count the same.
 fn compare_statistics(distribution: [u32; 256], counts: [usize; 4], theirs: &FrameStatistics) {
-    let (octet, length) = theirs.longest_run;
-    let told = [theirs.null_bytes, theirs.high_bytes, octet.into(), length];
-    assert_eq!(distribution, theirs.byte_distribution, "statistics");
-    assert_eq!(counts, told, "statistics");
+    let theirs = told::statistics(theirs);
+    let distribution = distribution.map(|count| count as usize);
+    assert_eq!(distribution.to_vec(), theirs.counts, "statistics");
+    assert_eq!(counts, theirs.numbers(), "statistics");
 }
 
 // The most patterns that so many octets can have, and those that some octets have: how many a lent
@@ -67,34 +69,20 @@ fn patterns(name: &'static str, frame: Octets, room: fn(Octets) -> usize) -> Row
     let theirs = pointer!(opened_patterns as fn(&_) -> _);
     let (out, count) = (lent_list(0, 4 * room(frame)), lent(0));
     let ours = move || unsafe {
-        let out = &mut *out;
-        ours(
-            frame.as_ptr(),
-            frame.len(),
-            out.as_mut_ptr(),
-            out.len(),
-            count,
-        )
+        let (octets, size, out) = (frame.as_ptr(), frame.len(), &mut *out);
+        ours(octets, size, out.as_mut_ptr(), out.len(), count)
     };
     assert_eq!(ours(), 0, "{name}");
-    compare_patterns(out, now(count), &theirs(frame));
+    compare_patterns(frame, out, now(count), &theirs(frame));
     Row::both(name, frame.len(), ours, move || theirs(frame))
 }
 
 // Panics unless both sides find the same.
-fn compare_patterns(out: *mut [u32], count: usize, theirs: &[Pattern]) {
-    let entry = |pattern: &Pattern| match pattern {
-        Pattern::Padding {
-            start,
-            length,
-            value,
-        } => [1, *start, *length, usize::from(*value)],
-        Pattern::AsciiText { start, text } => [2, *start, text.len(), 0],
-        _ => panic!("a pattern that no row has: {pattern:?}"),
-    };
-    let told = theirs.iter().flat_map(entry).map(|number| number as u32);
-    let told: Vec<u32> = told.collect();
-    assert_eq!(front(out, 4 * count), told, "patterns");
+fn compare_patterns(frame: Octets, out: *mut [u32], count: usize, theirs: &[Pattern]) {
+    let ours = front(out, 4 * count).into_iter();
+    let ours: Vec<usize> = ours.map(|number| number as usize).collect();
+    let theirs = told::patterns(frame, theirs);
+    assert_eq!(ours, theirs.as_flattened(), "patterns");
 }
 
 fn analysis(frame: Octets) -> Row {
@@ -102,26 +90,20 @@ fn analysis(frame: Octets) -> Row {
         pointer!(lefkanu_analyze_frame as unsafe extern "C" fn(_, _, _, _, _, _, _, _, _) -> _);
     let theirs = pointer!(analyze_frame as fn(&_) -> _);
     let result = lent([0; RESULT_NUMBERS]);
-    let (distribution, counts) = (lent([0; 256]), lent([0; 4]));
+    let (values, counts) = (lent([0; 256]), lent([0; 4]));
     let (out, count) = (lent_list(0, 4 * most(frame)), lent(0));
     let ours = move || unsafe {
-        let out = &mut *out;
+        let (octets, size, out) = (frame.as_ptr(), frame.len(), &mut *out);
+        let (list, room) = (out.as_mut_ptr(), out.len());
         ours(
-            HOUSE,
-            frame.as_ptr(),
-            frame.len(),
-            result,
-            distribution,
-            counts,
-            out.as_mut_ptr(),
-            out.len(),
-            count,
+            HOUSE, octets, size, result, values, counts, list, room, count,
         )
     };
     let analysis: FrameAnalysis = theirs(frame);
     assert_eq!(ours(), 0, "analysis");
-    assert_eq!(now(result), told(&analysis.validation), "analysis");
-    compare_statistics(now(distribution), now(counts), &analysis.statistics);
-    compare_patterns(out, now(count), &analysis.patterns);
+    let findings = findings::told(&analysis.validation);
+    assert_eq!(now(result), findings.numbers(), "analysis");
+    compare_statistics(now(values), now(counts), &analysis.statistics);
+    compare_patterns(frame, out, now(count), &analysis.patterns);
     Row::both("analysis", frame.len(), ours, move || theirs(frame))
 }

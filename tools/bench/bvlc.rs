@@ -4,8 +4,9 @@
 use std::cell::RefCell;
 use std::net::{Ipv4Addr, SocketAddr};
 
-use crate::datalink::bip::{opened_process, BacnetIpDataLink, BvlcFunction, BvlcHeader};
-use crate::ffi::{lefkanu_bvlc_decode, lefkanu_bvlc_encode, lefkanu_process_bvlc_message, NPDU};
+use bacnet::datalink::bip::{opened_process, BacnetIpDataLink, BvlcFunction, BvlcHeader};
+use ffi::{lefkanu_bvlc_decode, lefkanu_bvlc_encode, lefkanu_process_bvlc_message, NPDU};
+
 use crate::frames::bvlc;
 use crate::row::{front, lent, lent_list, now, pointer, Row, SIZES};
 
@@ -57,11 +58,8 @@ fn npdu(size: usize) -> Row {
     let theirs = move || theirs(&mut link.borrow_mut(), message, here);
     let (npdu, _) = theirs();
     let npdu: Vec<u8> = npdu.expect("a message").expect("an NPDU");
-    assert_eq!(
-        (ours(), now(carried)),
-        (0, [NPDU, HEADER, npdu.len()]),
-        "NPDU"
-    );
+    let told = [NPDU, HEADER, npdu.len()];
+    assert_eq!((ours(), now(carried)), (0, told), "NPDU");
     assert_eq!(message[HEADER..], npdu, "NPDU");
     Row::both("NPDU", size, ours, theirs)
 }

@@ -2,12 +2,13 @@
 
 use std::hint::black_box;
 
-use crate::datalink::mstp::opened_header_crc;
-use crate::ffi::{lefkanu_calculate_header_crc, lefkanu_crc16_mstp};
+use bacnet::datalink::mstp::opened_header_crc;
+use bacnet::util::crc16_mstp;
+use ffi::{lefkanu_calculate_header_crc, lefkanu_crc16_mstp};
+
 use crate::frames::{octets, Octets};
 use crate::row::{lent, now, pointer, Row, SIZES};
-use crate::util::crc16_mstp;
-use crate::{ANNEX_G, HOUSE};
+use crate::rules::{ANNEX_G, HOUSE};
 
 // A header of a token, and its checks under the two rules.
 const HEADER: [u8; 5] = [0x00, 0x10, 0x05, 0x00, 0x00];

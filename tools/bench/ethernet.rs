@@ -3,11 +3,12 @@
 
 use std::cell::Cell;
 
-use crate::datalink::ethernet::{
+use bacnet::datalink::ethernet::{
     validate_ethernet_frame, EthernetFrame, BACNET_ETHERNET_HEADER_SIZE, MAX_ETHERNET_FRAME_SIZE,
     MIN_ETHERNET_FRAME_SIZE,
 };
-use crate::ffi::{lefkanu_ethernet_decode, lefkanu_ethernet_encode, lefkanu_ethernet_validate};
+use ffi::{lefkanu_ethernet_decode, lefkanu_ethernet_encode, lefkanu_ethernet_validate};
+
 use crate::frames::{ethernet, octets, MACS};
 use crate::row::{front, lent, lent_list, now, pointer, sizes_to, Row, SIZES};
 
@@ -27,11 +28,8 @@ fn read(size: usize) -> Row {
     let ours = move || unsafe { ours(frame.as_ptr(), frame.len(), to, from, payload) };
     let read: EthernetFrame = theirs(frame).expect("a frame");
     assert_eq!(ours(), 0, "Ethernet read");
-    assert_eq!(
-        [now(to), now(from)],
-        [read.dest_mac, read.src_mac],
-        "addresses"
-    );
+    let addresses = [read.dest_mac, read.src_mac];
+    assert_eq!([now(to), now(from)], addresses, "addresses");
     let [start, count] = now(payload);
     assert_eq!(frame[start..][..count], read.payload, "payload");
     Row::both("Ethernet read", size, ours, move || theirs(frame))
@@ -53,16 +51,9 @@ fn write(size: usize) -> Row {
     let ours = pointer!(lefkanu_ethernet_encode as unsafe extern "C" fn(_, _, _, _, _, _, _) -> _);
     let (out, count) = (lent_list(0, MAX_ETHERNET_FRAME_SIZE), lent(0));
     let ours = move || unsafe {
-        let out = &mut *out;
-        ours(
-            &MACS[0],
-            &MACS[1],
-            payload.as_ptr(),
-            payload.len(),
-            out.as_mut_ptr(),
-            out.len(),
-            count,
-        )
+        let (octets, length, out) = (payload.as_ptr(), payload.len(), &mut *out);
+        let (list, room) = (out.as_mut_ptr(), out.len());
+        ours(&MACS[0], &MACS[1], octets, length, list, room, count)
     };
     let new = pointer!(EthernetFrame::new as fn(_, _, _) -> _);
     let encode = pointer!(EthernetFrame::encode as fn(&_) -> _);

@@ -1,19 +1,18 @@
 // The frames and messages that are measured. They are never given back, so that every call of a row
 // may borrow them.
 
-use crate::datalink::ethernet::{BACNET_ETHERNET_HEADER_SIZE, BACNET_LLC_HEADER};
-use crate::datalink::mstp::opened_header_crc;
-use crate::random::Random;
-use crate::util::crc16_mstp;
+use shared::model::{bvlc, ethernet, mstp};
+use shared::random::Random;
+use shared::rust::checks::House;
 
 pub type Octets = &'static [u8];
 
 // The addresses in Ethernet frames.
-pub const MACS: [[u8; 6]; 2] = [[0xFF; 6], [0x00, 0x11, 0x22, 0x33, 0x44, 0x55]];
+pub const MACS: ethernet::Addresses = [[0xFF; 6], [0x00, 0x11, 0x22, 0x33, 0x44, 0x55]];
 
 // Random octets.
 pub fn octets(count: usize) -> Octets {
-    Random::new().octets(count).leak()
+    Random::new().octets_without_ff(count).leak()
 }
 
 // The octets with another one at each of some places.
@@ -49,22 +48,8 @@ pub fn to_slave(size: usize) -> Octets {
 
 fn mstp_to(destination: u8, size: usize) -> Octets {
     let data = octets(size.saturating_sub(10));
-    let [high, low] = (data.len() as u16).to_be_bytes();
-    let header = [
-        if data.is_empty() { 0 } else { 6 },
-        destination,
-        5,
-        high,
-        low,
-    ];
-    let mut frame = vec![0x55, 0xFF];
-    frame.extend(header);
-    frame.push(opened_header_crc(&header));
-    if !data.is_empty() {
-        frame.extend(data);
-        frame.extend(crc16_mstp(data).to_le_bytes());
-    }
-    frame.leak()
+    let kind = if data.is_empty() { 0 } else { 6 };
+    mstp::written(House, [kind, destination, 5], data).leak()
 }
 
 // An MS/TP frame of so many octets whose type, source and checks are wrong.
@@ -74,9 +59,7 @@ pub fn bad_mstp(size: usize) -> Octets {
 
 // A BVLC message of so many octets that carries an NPDU.
 pub fn bvlc(size: usize) -> Octets {
-    let [high, low] = (size as u16).to_be_bytes();
-    let header = [(0, 0x81), (1, 0x0A), (2, high), (3, low)];
-    with(octets(size), &header)
+    bvlc::message(0x0A, &octets(size)[4..]).leak()
 }
 
 // A BVLC message of so many octets whose type, function and length are wrong.
@@ -85,13 +68,9 @@ pub fn bad_bvlc(size: usize) -> Octets {
     with(message, &[(0, 0x82), (1, 0x20), (3, message[3] ^ 0x10)])
 }
 
-// An Ethernet frame of so many octets, 17 or more.
+// An Ethernet frame of so many octets, 17 or more, without padding.
 pub fn ethernet(size: usize) -> Octets {
-    let mut frame = MACS.concat();
-    frame.extend([0x82, 0xDC]);
-    frame.extend(BACNET_LLC_HEADER);
-    frame.extend(octets(size - BACNET_ETHERNET_HEADER_SIZE));
-    frame.leak()
+    ethernet::unpadded(MACS, octets(size - ethernet::BEFORE)).leak()
 }
 
 // An Ethernet frame of so many octets with another type and LLC header, to a multicast address.

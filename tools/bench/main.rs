@@ -15,28 +15,14 @@ mod frames;
 mod logs;
 mod measure;
 mod mstp;
-mod random;
 mod readings;
 mod row;
+mod rules;
 mod runs;
-mod rust_finder;
-mod rust_findings;
 mod tables;
 mod validators;
 
-#[path = "../../bindings/rust/src/ffi.rs"]
-mod ffi;
-
-// The Rust's own modules, and the stand-in for one that isn't among its files.
-mod datalink;
-mod encoding;
-mod util;
-
 use row::{Calls, Row};
-
-// The rules' numbers.
-pub const ANNEX_G: u8 = 0;
-pub const HOUSE: u8 = 1;
 
 // How many calls callgrind counts.
 const CALLS: usize = 10;

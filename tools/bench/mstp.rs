@@ -3,12 +3,14 @@
 
 use std::cell::Cell;
 
-use crate::datalink::mstp::{MstpFrame, MstpFrameType, MSTP_MAX_FRAME_SIZE};
-use crate::datalink::{DataLinkError, Result};
-use crate::ffi::{lefkanu_mstp_decode, lefkanu_mstp_encode};
+use bacnet::datalink::mstp::{MstpFrame, MstpFrameType, MSTP_MAX_FRAME_SIZE};
+use bacnet::datalink::{DataLinkError, Result};
+use ffi::{lefkanu_mstp_decode, lefkanu_mstp_encode};
+use shared::rust::mstp::told;
+
 use crate::frames::{broken, mstp, Octets};
 use crate::row::{front, lent, lent_list, now, pointer, sizes_to, Row, SIZES};
-use crate::HOUSE;
+use crate::rules::HOUSE;
 
 // The question of the data check.
 const DATA_CHECK: u8 = 6;
@@ -33,23 +35,14 @@ fn read(name: &'static str, frame: Octets) -> Row {
 
 // Panics unless both sides read the same.
 fn compare(frame: Octets, answer: u8, header: [usize; 8], theirs: Result<MstpFrame>) {
-    let theirs = match theirs {
-        Ok(theirs) => theirs,
-        Err(DataLinkError::CrcError) => return assert_eq!(answer, DATA_CHECK, "MS/TP read"),
+    match theirs {
+        Ok(theirs) => {
+            let told = told(frame, &theirs).numbers();
+            assert_eq!((answer, header), (0, told), "MS/TP read");
+        }
+        Err(DataLinkError::CrcError) => assert_eq!(answer, DATA_CHECK, "MS/TP read"),
         Err(error) => panic!("the Rust refuses a frame: {error:?}"),
-    };
-    let told = [
-        theirs.frame_type as usize,
-        theirs.destination.into(),
-        theirs.source.into(),
-        theirs.header_crc.into(),
-        theirs.data_crc.is_some().into(),
-        theirs.data_crc.unwrap_or(0).into(),
-        8,
-        theirs.data.len(),
-    ];
-    assert_eq!((answer, header), (0, told), "MS/TP read");
-    assert_eq!(frame[8..][..header[7]], theirs.data, "MS/TP data");
+    }
 }
 
 fn write(size: usize) -> Row {
@@ -60,17 +53,11 @@ fn write(size: usize) -> Row {
     let ours =
         pointer!(lefkanu_mstp_encode as unsafe extern "C" fn(_, _, _, _, _, _, _, _, _) -> _);
     let ours = move || unsafe {
-        let out = &mut *out;
+        let (to, from, out) = (frame[3], frame[4], &mut *out);
+        let (octets, length) = (data.as_ptr(), data.len());
+        let (list, room) = (out.as_mut_ptr(), out.len());
         ours(
-            HOUSE,
-            kind as u8,
-            frame[3],
-            frame[4],
-            data.as_ptr(),
-            data.len(),
-            out.as_mut_ptr(),
-            out.len(),
-            count,
+            HOUSE, kind as u8, to, from, octets, length, list, room, count,
         )
     };
     let new = pointer!(MstpFrame::new as fn(_, _, _, _) -> _);

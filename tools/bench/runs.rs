@@ -1,7 +1,8 @@
 // The runs of bus octets that are measured, each kind by its name and the function that makes one.
 
-use crate::datalink::mstp::{MstpFrame, MstpFrameType};
-use crate::random::Random;
+use shared::model::mstp::{header, written};
+use shared::random::Random;
+use shared::rust::checks::House;
 
 // Makes a run of so many octets.
 type Make = fn(usize) -> Vec<u8>;
@@ -22,20 +23,15 @@ pub const KINDS: [(&str, Make); 7] = [
     ("frames among sparks", mixed),
 ];
 
-// A frame as the Rust writes it.
-fn frame(destination: u8, source: u8, data: Vec<u8>) -> Vec<u8> {
-    let kind = match data.is_empty() {
-        true => MstpFrameType::Token,
-        false => MstpFrameType::BacnetDataNotExpectingReply,
-    };
-    MstpFrame::new(kind, destination, source, data)
-        .expect("at most 501 data octets")
-        .encode()
+// A frame under the house rule: a token, or one with data.
+fn frame(destination: u8, source: u8, data: &[u8]) -> Vec<u8> {
+    let kind = if data.is_empty() { 0 } else { 6 };
+    written(House, [kind, destination, source], data)
 }
 
 // The first eight octets of a frame of 501 data octets.
 fn long_header() -> Vec<u8> {
-    frame(16, 5, vec![0x11; 501])[..8].to_vec()
+    header(House, [6, 16, 5], 501)
 }
 
 // Some octets with the last one changed.
@@ -50,11 +46,11 @@ fn over_and_over(octets: Vec<u8>, count: usize) -> Vec<u8> {
 }
 
 fn junk(count: usize) -> Vec<u8> {
-    Random::new().octets(count)
+    Random::new().octets_without_ff(count)
 }
 
 fn broken_tokens(count: usize) -> Vec<u8> {
-    over_and_over(broken(frame(16, 5, Vec::new())), count)
+    over_and_over(broken(frame(16, 5, &[])), count)
 }
 
 fn broken_headers(count: usize) -> Vec<u8> {
@@ -66,11 +62,11 @@ fn broken_data(count: usize) -> Vec<u8> {
 }
 
 fn tokens(count: usize) -> Vec<u8> {
-    over_and_over(frame(16, 5, Vec::new()), count)
+    over_and_over(frame(16, 5, &[]), count)
 }
 
 fn long_frames(count: usize) -> Vec<u8> {
-    over_and_over(frame(16, 5, vec![0x11; 501]), count)
+    over_and_over(frame(16, 5, &[0x11; 501]), count)
 }
 
 // Noise, tokens, frames of some data, and the same with an octet changed, in a random order.
@@ -79,10 +75,10 @@ fn mixed(count: usize) -> Vec<u8> {
     let mut run = Vec::new();
     while run.len() < count {
         let size = [0, 1 + random.below(40), 1 + random.below(501)][random.below(3)];
-        let data = random.octets(size);
-        let good = frame(random.below(128) as u8, random.below(128) as u8, data);
+        let data = random.octets_without_ff(size);
+        let good = frame(random.below(128) as u8, random.below(128) as u8, &data);
         run.extend(match random.below(4) {
-            0 => random.octets(60),
+            0 => random.octets_without_ff(60),
             1 => broken(good),
             _ => good,
         });

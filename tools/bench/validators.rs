@@ -2,21 +2,22 @@
 
 use std::hint::black_box;
 
-use crate::datalink::validation::{
+use bacnet::datalink::validation::{
     validate_bacnet_ip_frame, validate_ethernet_frame, validate_frame, validate_mstp_frame,
     ValidationResult,
 };
-use crate::ffi::{
+use ffi::{
     lefkanu_validate_bacnet_ip_frame, lefkanu_validate_ethernet_frame, lefkanu_validate_frame,
     lefkanu_validate_mstp_frame, RESULT_NUMBERS,
 };
+use shared::rust::findings::told;
+
 use crate::frames::{
     bad_bvlc, bad_ethernet, bad_mstp, broken, bvlc, ethernet, header_broken, mstp, to_slave, with,
     Octets,
 };
 use crate::row::{lent, now, sizes_to, Row, SIZES};
-use crate::rust_findings::told;
-use crate::HOUSE;
+use crate::rules::HOUSE;
 
 // A validator of each side.
 type Theirs = fn(&[u8]) -> ValidationResult;
@@ -32,66 +33,43 @@ const ETHERNET_MOST: usize = 1_514;
 const ETHERNET_LEAST: usize = 17;
 const ETHERNET_PADDED: usize = 60;
 
+// Some rows, a line for each name: what makes a row, its sizes, and what makes a frame of a size.
+macro_rules! rows {
+    ($($name:literal, $row:ident, $sizes:expr, $frame:expr;)*) => {{
+        let mut rows: Vec<Row> = Vec::new();
+        $(
+            let frame: fn(usize) -> Octets = $frame;
+            rows.extend($sizes.into_iter().map(|size| $row($name, frame(size))));
+        )*
+        rows
+    }};
+}
+
 pub fn rows() -> Vec<Row> {
-    let mut rows: Vec<Row> = sizes_to(MSTP_MOST)
-        .map(|size| mstp_row("validate MS/TP", mstp(size)))
-        .collect();
-    rows.extend(SIZES.map(|size| {
-        let frame = with(bad_mstp(size), &[(0, 0x56)]);
-        mstp_row("validate MS/TP, errors", frame)
-    }));
-    rows.extend(sizes_to(MSTP_MOST).map(|size| {
-        mstp_row(
-            "validate MS/TP, header check wrong",
-            header_broken(mstp(size)),
-        )
-    }));
-    rows.extend(
-        sizes_to(MSTP_MOST)
-            .skip(1)
-            .map(|size| mstp_row("validate MS/TP, data check wrong", broken(mstp(size)))),
-    );
-    rows.extend(
-        sizes_to(MSTP_MOST).map(|size| mstp_row("validate MS/TP, to a slave", to_slave(size))),
-    );
-    rows.extend(sizes_to(ETHERNET_MOST).map(|size| ip_row("validate IP", bvlc(size.min(IP_MOST)))));
-    rows.extend(SIZES.map(|size| ip_row("validate IP, errors", bad_bvlc(size))));
-    rows.push(ip_row(
-        "validate IP, secure BVLL",
-        with(bvlc(8), &[(1, 0x0C)]),
-    ));
-    rows.extend(sizes_to(ETHERNET_MOST).map(|size| {
-        let frame = ethernet(size.max(ETHERNET_LEAST));
-        ethernet_row("validate Ethernet", frame)
-    }));
-    rows.extend(SIZES.map(|size| {
-        let frame = bad_ethernet(size.max(ETHERNET_LEAST));
-        ethernet_row("validate Ethernet, errors", frame)
-    }));
-    rows.push(ethernet_row(
-        "validate Ethernet, padded to 60",
-        ethernet(ETHERNET_PADDED),
-    ));
-    rows.extend(sizes_to(MSTP_MOST).map(|size| frame_row("validate any link", mstp(size))));
-    rows.extend(SIZES.map(|size| frame_row("validate any link, errors", bad_mstp(size))));
-    rows.push(frame_row(
-        "validate any link, header check wrong",
-        header_broken(mstp(8)),
-    ));
-    rows.push(frame_row(
-        "validate any link, padded to 60",
-        ethernet(ETHERNET_PADDED),
-    ));
-    rows
+    let short = || sizes_to(MSTP_MOST);
+    let long = || sizes_to(ETHERNET_MOST);
+    rows! {
+        "validate MS/TP", mstp_row, short(), mstp;
+        "validate MS/TP, errors", mstp_row, SIZES, |size| with(bad_mstp(size), &[(0, 0x56)]);
+        "validate MS/TP, header check wrong", mstp_row, short(), |size| header_broken(mstp(size));
+        "validate MS/TP, data check wrong", mstp_row, short().skip(1), |size| broken(mstp(size));
+        "validate MS/TP, to a slave", mstp_row, short(), to_slave;
+        "validate IP", ip_row, long(), |size| bvlc(size.min(IP_MOST));
+        "validate IP, errors", ip_row, SIZES, bad_bvlc;
+        "validate IP, secure BVLL", ip_row, [8], |size| with(bvlc(size), &[(1, 0x0C)]);
+        "validate Ethernet", ethernet_row, long(), |size| ethernet(size.max(ETHERNET_LEAST));
+        "validate Ethernet, errors", ethernet_row, SIZES, |size| bad_ethernet(size.max(ETHERNET_LEAST));
+        "validate Ethernet, padded to 60", ethernet_row, [ETHERNET_PADDED], ethernet;
+        "validate any link", frame_row, short(), mstp;
+        "validate any link, errors", frame_row, SIZES, bad_mstp;
+        "validate any link, header check wrong", frame_row, [8], |size| header_broken(mstp(size));
+        "validate any link, padded to 60", frame_row, [ETHERNET_PADDED], ethernet;
+    }
 }
 
 fn mstp_row(name: &'static str, frame: Octets) -> Row {
-    ruled(
-        name,
-        frame,
-        lefkanu_validate_mstp_frame,
-        validate_mstp_frame,
-    )
+    let (ours, theirs) = (lefkanu_validate_mstp_frame, validate_mstp_frame);
+    ruled(name, frame, ours, theirs)
 }
 
 fn ip_row(name: &'static str, frame: Octets) -> Row {
@@ -114,7 +92,7 @@ fn ruled(name: &'static str, frame: Octets, ours: Ruled, theirs: Theirs) -> Row 
     let result = lent([0; RESULT_NUMBERS]);
     let ours = move || unsafe { ours(HOUSE, frame.as_ptr(), frame.len(), result) };
     assert_eq!(ours(), 0, "{name}");
-    assert_eq!(now(result), told(&theirs(frame)), "{name}");
+    assert_eq!(now(result), told(&theirs(frame)).numbers(), "{name}");
     Row::both(name, frame.len(), ours, move || theirs(frame))
 }
 
@@ -124,6 +102,6 @@ fn plain(name: &'static str, frame: Octets, ours: Plain, theirs: Theirs) -> Row 
     let result = lent([0; RESULT_NUMBERS]);
     let ours = move || unsafe { ours(frame.as_ptr(), frame.len(), result) };
     ours();
-    assert_eq!(now(result), told(&theirs(frame)), "{name}");
+    assert_eq!(now(result), told(&theirs(frame)).numbers(), "{name}");
     Row::both(name, frame.len(), ours, move || theirs(frame))
 }

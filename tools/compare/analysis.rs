@@ -1,28 +1,32 @@
 // Statistics, patterns, and the analysis of both and the findings.
 
-use crate::check::Rule;
-use crate::datalink::validation::{
-    analyze_frame, opened_patterns, opened_statistics, validate_frame, FrameStatistics, Pattern,
+use bacnet::datalink::validation::{
+    analyze_frame, opened_patterns, opened_statistics, validate_frame, Pattern,
 };
-use crate::ffi::{
+use ffi::{
     lefkanu_analyze_frame, lefkanu_calculate_frame_statistics, lefkanu_detect_patterns,
     RESULT_NUMBERS,
 };
+use shared::model::analysis::{self, Analysis};
+use shared::model::patterns::{self, Entry};
+use shared::model::questions::MOST;
+use shared::model::{statistics, validators};
+use shared::octets::hex;
+use shared::random::Random;
+use shared::rust;
+
+use crate::call::Call;
+use crate::check::Rule;
 use crate::inputs::{any, one_of, Ask};
 use crate::lent::Lent;
-use crate::list::hex;
-use crate::model::analysis as model;
-use crate::outcome::{Rust, Written};
-use crate::random::Random;
-use crate::tally::{Call, Tally};
-use crate::{findings, patterns, statistics, validation};
+use crate::outcome::{model, Rust};
+use crate::tally::Tally;
+use crate::validation::rust_findings;
+use crate::written::InMemory;
 
 // How many frames there are, beside the short words: under each rule, or where there is none.
 const FRAMES: usize = 450_000;
 const RULELESS: usize = 950_000;
-
-// How often each number is tried that names no rule.
-const UNNAMED: usize = 8;
 
 // Asks about so many octets with patterns and frames, and all short words of few values.
 fn each(count: usize, random: &mut Random, ask: Ask) {
@@ -35,20 +39,15 @@ pub fn frame_statistics(tally: &mut Tally, random: &mut Random) {
     each(RULELESS, random, &mut |random, frame| {
         let mut distribution = Lent::<u32>::new(256, random);
         let mut counts = Lent::<usize>::new(4, random);
-        let answer = unsafe {
-            lefkanu_calculate_frame_statistics(
-                frame.as_ptr(),
-                frame.len(),
-                distribution.array(),
-                counts.array(),
-            )
-        };
+        let (octets, size) = (frame.as_ptr(), frame.len());
+        let (values, four) = (distribution.array(), counts.array());
+        let answer = unsafe { lefkanu_calculate_frame_statistics(octets, size, values, four) };
         tally.compare(Call {
             answer,
             lent: &mut [&mut distribution, &mut counts],
-            model: model::statistics(frame),
+            model: model(statistics::count(frame)),
             rust: match frame.len() {
-                0..=model::MOST => Rust::Whole(Ok(rust_counts(opened_statistics(frame)))),
+                0..=MOST => Rust::whole(Ok(rust::analysis::statistics(&opened_statistics(frame)))),
                 _ => Rust::Silent,
             },
             input: &|| hex(frame),
@@ -56,21 +55,16 @@ pub fn frame_statistics(tally: &mut Tally, random: &mut Random) {
     });
 }
 
-// The Rust's statistics.
-fn rust_counts(counted: FrameStatistics) -> Written {
-    model::counts(&statistics::told(counted)).to_vec()
-}
-
 // The Rust's patterns, if they fit.
-fn rust_list(frame: &[u8], found: &[Pattern], room: usize) -> Option<Written> {
-    let entries = patterns::told(frame, found);
-    (4 * entries.len() <= room).then(|| model::list(&entries).to_vec())
+fn rust_patterns(frame: &[u8], found: &[Pattern], room: usize) -> Option<Vec<Entry>> {
+    let entries = rust::analysis::patterns(frame, found);
+    (4 * entries.len() <= room).then_some(entries)
 }
 
 // A room for the patterns of a frame: just enough, around that, or any.
 fn room(frame: &[u8], random: &mut Random) -> usize {
     let fit = match frame.len() {
-        0..=model::MOST => 4 * patterns::found(frame).len(),
+        0..=MOST => 4 * patterns::found(frame).len(),
         _ => 8,
     };
     let less = fit.saturating_sub(1);
@@ -87,37 +81,31 @@ pub fn detect_patterns(tally: &mut Tally, random: &mut Random) {
         let room = room(frame, random);
         let mut out = Lent::<u32>::new(room, random);
         let mut count = Lent::<usize>::new(1, random);
-        let answer = unsafe {
-            lefkanu_detect_patterns(
-                frame.as_ptr(),
-                frame.len(),
-                out.pointer(),
-                room,
-                count.pointer(),
-            )
-        };
-        let model = model::detect(frame, room);
-        if let Ok(written) = &model {
-            see(tally, &written[0]);
+        let (octets, size) = (frame.as_ptr(), frame.len());
+        let (list, counted) = (out.pointer(), count.pointer());
+        let answer = unsafe { lefkanu_detect_patterns(octets, size, list, room, counted) };
+        let found = patterns::detect(frame, room);
+        if let Ok(entries) = &found {
+            see(tally, entries);
         }
         let rust = match frame.len() {
-            0..=model::MOST => rust_list(frame, &opened_patterns(frame), room),
+            0..=MOST => rust_patterns(frame, &opened_patterns(frame), room),
             _ => None,
         };
         tally.compare(Call {
             answer,
             lent: &mut [&mut out, &mut count],
-            model,
-            rust: rust.map_or(Rust::Silent, |list| Rust::Whole(Ok(list))),
+            model: model(found),
+            rust: rust.map_or(Rust::Silent, |entries| Rust::whole(Ok(entries))),
             input: &|| format!("room {room}, {}", hex(frame)),
         });
     });
 }
 
 // Counts the patterns found, by their kind.
-fn see(tally: &mut Tally, list: &[u64]) {
-    for entry in list.chunks(4) {
-        tally.see(('p', entry[0] as usize, 0));
+fn see(tally: &mut Tally, entries: &[Entry]) {
+    for [kind, ..] in entries {
+        tally.see(('p', *kind, 0));
     }
 }
 
@@ -133,12 +121,9 @@ pub fn whole_analysis(tally: &mut Tally, random: &mut Random) {
         let rule = random.below(2) as u8;
         analyze(tally, random, rule, frame);
     });
-    for rule in 2..=255 {
-        for _ in 0..UNNAMED {
-            let frame = frames.one(random);
-            analyze(tally, random, rule, &frame);
-        }
-    }
+    frames.unnamed(random, &mut |random, rule, frame| {
+        analyze(tally, random, rule, frame);
+    });
 }
 
 // One analysis.
@@ -149,23 +134,16 @@ fn analyze(tally: &mut Tally, random: &mut Random, rule: u8, frame: &[u8]) {
     let mut counts = Lent::<usize>::new(4, random);
     let mut out = Lent::<u32>::new(room, random);
     let mut count = Lent::<usize>::new(1, random);
+    let (octets, size) = (frame.as_ptr(), frame.len());
+    let (found, values, four) = (result.array(), distribution.array(), counts.array());
+    let (list, counted) = (out.pointer(), count.pointer());
     let answer = unsafe {
-        lefkanu_analyze_frame(
-            rule,
-            frame.as_ptr(),
-            frame.len(),
-            result.array(),
-            distribution.array(),
-            counts.array(),
-            out.pointer(),
-            room,
-            count.pointer(),
-        )
+        lefkanu_analyze_frame(rule, octets, size, found, values, four, list, room, counted)
     };
-    let model = model::analyze(rule, frame, room);
-    if let Ok(written) = &model {
-        tally.see(('l', written[0][1] as usize, 0));
-        see(tally, &written[3]);
+    let found = Rule::of(rule).and_then(|rule| analysis::analyze(rule, frame, room));
+    if let Ok(analysis) = &found {
+        tally.see(('l', analysis.findings.link as usize, 0));
+        see(tally, &analysis.patterns);
     }
     tally.compare(Call {
         answer,
@@ -176,7 +154,7 @@ fn analyze(tally: &mut Tally, random: &mut Random, rule: u8, frame: &[u8]) {
             &mut out,
             &mut count,
         ],
-        model,
+        model: model(found),
         rust: rust_analysis(rule, frame, room).unwrap_or(Rust::Silent),
         input: &|| format!("rule {rule}, room {room}, {}", hex(frame)),
     });
@@ -185,17 +163,17 @@ fn analyze(tally: &mut Tally, random: &mut Random, rule: u8, frame: &[u8]) {
 // The Rust's analysis, if its patterns fit. Its findings are judged as those of its validator.
 fn rust_analysis(rule: u8, frame: &[u8], room: usize) -> Option<Rust> {
     let rule = Rule::of(rule).ok()?;
-    if frame.len() > model::MOST {
+    if frame.len() > MOST {
         return None;
     }
-    let analysis = analyze_frame(frame);
-    let list = rust_list(frame, &analysis.patterns, room)?;
-    let rest = [rust_counts(analysis.statistics), list].concat();
-    let found = findings::frame(rule, frame);
-    let behind = |found: Written| [found, rest.clone()].concat();
-    match validation::opinion(rule, frame, &found, validate_frame) {
-        Rust::Whole(told) => Some(Rust::Whole(told.map(behind))),
-        Rust::ButChecks(told) => Some(Rust::ButChecks(told.map(behind))),
-        Rust::Silent => None,
-    }
+    let told = analyze_frame(frame);
+    let patterns = rust_patterns(frame, &told.patterns, room)?;
+    let model = validators::frame(rule, frame);
+    let (judge, findings) = rust_findings(rule, frame, &model, validate_frame);
+    let analysis = Analysis {
+        findings,
+        statistics: rust::analysis::statistics(&told.statistics),
+        patterns,
+    };
+    Some(judge(Ok(analysis.written())))
 }

@@ -1,19 +1,20 @@
 // BVLC messages: headers read and written, and what a message carries.
 
-use std::net::SocketAddr;
-
-use crate::datalink::bip::{opened_process, BacnetIpDataLink, BvlcFunction, BvlcHeader};
-use crate::ffi::{
+use ffi::{
     lefkanu_bvlc_decode, lefkanu_bvlc_encode, lefkanu_process_bvlc_message, NO_CASE, NO_NPDU, NPDU,
     TIME_TO_LIVE,
 };
+use shared::model::bvlc::{self, Carried, Header, LAST_FUNCTION};
+use shared::octets::hex;
+use shared::random::Random;
+use shared::rust;
+
+use crate::call::Call;
 use crate::inputs::{bip as inputs, one_of};
 use crate::lent::Lent;
-use crate::list::hex;
-use crate::model::bip as model;
-use crate::outcome::{numbers, refusal, Refusal, Rust, Told};
-use crate::random::Random;
-use crate::tally::{Call, Tally};
+use crate::outcome::{model, Refusal, Rust};
+use crate::tally::Tally;
+use crate::written::{numbers, Written};
 
 // How many messages there are, beside those of every function, size and length.
 const MESSAGES: usize = 1_000_000;
@@ -35,23 +36,15 @@ fn header(tally: &mut Tally, random: &mut Random, message: &[u8]) {
     tally.compare(Call {
         answer,
         lent: &mut [&mut header],
-        model: model::decode(message),
-        rust: Rust::Whole(rust_header(message)),
+        model: model(bvlc::read(message)),
+        rust: Rust::whole(rust::bvlc::read(message)),
         input: &|| hex(message),
     });
 }
 
-// The header that the Rust reads.
-fn rust_header(message: &[u8]) -> Told {
-    let header = BvlcHeader::decode(message).map_err(refusal)?;
-    assert_eq!(header.bvlc_type, 0x81, "the type that the Rust read");
-    let numbers = numbers(&[header.function as usize, header.length.into()]);
-    Ok(vec![numbers])
-}
-
 // Every function with every length; every number with each output and some lengths.
 pub fn encode(tally: &mut Tally, random: &mut Random) {
-    for function in 0..=model::LAST_FUNCTION {
+    for function in 0..=LAST_FUNCTION {
         for length in 0..=0xFFFF {
             let room = match random.below(4) {
                 0 => one_of(&ROOMS, random),
@@ -75,6 +68,7 @@ pub fn encode(tally: &mut Tally, random: &mut Random) {
 
 // One header written.
 fn write(tally: &mut Tally, random: &mut Random, function: u8, length: u16, room: usize) {
+    let header = Header { function, length };
     let mut out = Lent::<u8>::new(room, random);
     let mut count = Lent::<usize>::new(1, random);
     let answer =
@@ -82,65 +76,55 @@ fn write(tally: &mut Tally, random: &mut Random, function: u8, length: u16, room
     tally.compare(Call {
         answer,
         lent: &mut [&mut out, &mut count],
-        model: model::encode(function, length, room),
-        rust: rust_write(function, length, room),
+        model: match function {
+            0..=LAST_FUNCTION => model(bvlc::write(&header, room)),
+            _ => Err(NO_CASE),
+        },
+        rust: match rust::bvlc::write(&header) {
+            Some(octets) => Rust::fitting(Ok(octets), room),
+            None => Rust::answer(NO_CASE),
+        },
         input: &|| format!("function {function}, length {length}, room {room}"),
     });
 }
 
-// The header that the Rust writes, if it fits.
-fn rust_write(function: u8, length: u16, room: usize) -> Rust {
-    let Ok(function) = BvlcFunction::try_from(function) else {
-        return Rust::Whole(Err(Refusal::Answer(NO_CASE)));
-    };
-    let header = BvlcHeader::new(function, length).encode();
-    match header.len() {
-        count if count > room => Rust::Silent,
-        count => Rust::Whole(Ok(vec![numbers(&header), numbers(&[count])])),
-    }
-}
-
 // Compares what messages carry.
 pub fn process(tally: &mut Tally, random: &mut Random) {
-    let mut link = BacnetIpDataLink::new("127.0.0.1:0").expect("a socket on loopback");
-    let source = SocketAddr::from(([127, 0, 0, 1], 0xBAC0));
+    let mut link = rust::bvlc::Link::new();
     let mut ask = |random: &mut Random, message: &[u8]| {
-        let rust = rust_process(&mut link, source, message);
-        message_carries(tally, random, message, rust);
+        let told = match link.process(message) {
+            Ok(found) => Ok(carried(message, &found)),
+            Err(error) => Err(Refusal::Error(error)),
+        };
+        message_carries(tally, random, message, Rust::Whole(told));
     };
     inputs::headers(random, &mut ask);
     inputs::inputs().each(MESSAGES, random, &mut ask);
 }
 
 // One message.
-fn message_carries(tally: &mut Tally, random: &mut Random, message: &[u8], rust: Told) {
-    let mut carried = Lent::<usize>::new(3, random);
+fn message_carries(tally: &mut Tally, random: &mut Random, message: &[u8], rust: Rust) {
+    let mut memory = Lent::<usize>::new(3, random);
     let answer =
-        unsafe { lefkanu_process_bvlc_message(message.as_ptr(), message.len(), carried.array()) };
-    let model = model::process(message);
+        unsafe { lefkanu_process_bvlc_message(message.as_ptr(), message.len(), memory.array()) };
+    let model = bvlc::process(message).map(|found| carried(message, &found));
     if let Ok(written) = &model {
         tally.see(('m', written[0][0] as usize, 0));
     }
     tally.compare(Call {
         answer,
-        lent: &mut [&mut carried],
+        lent: &mut [&mut memory],
         model,
-        rust: Rust::Whole(rust),
+        rust,
         input: &|| hex(message),
     });
 }
 
-// What the Rust finds in a message: the NPDU that it hands out, or the time to live that it stores.
-fn rust_process(link: &mut BacnetIpDataLink, source: SocketAddr, message: &[u8]) -> Told {
-    let (answer, stored) = opened_process(link, message, source);
-    let carried = match (answer.map_err(refusal)?, stored) {
-        (Some(npdu), None) => {
-            assert!(message.ends_with(&npdu), "the NPDU of {}", hex(message));
-            [NPDU, message.len() - npdu.len(), npdu.len()]
-        }
-        (None, Some(seconds)) => [TIME_TO_LIVE, seconds.into(), 0],
-        (None, None) => [NO_NPDU, 0, 0],
-        (Some(_), Some(_)) => panic!("an NPDU and a time to live in {}", hex(message)),
-    };
-    Ok(vec![numbers(&carried)])
+// What a message carries, as it stands in lent memory. An NPDU goes to the message's end.
+fn carried(message: &[u8], found: &Carried) -> Written {
+    vec![numbers(&match found {
+        Carried::Npdu(npdu) => [NPDU, message.len() - npdu.len(), npdu.len()],
+        Carried::TimeToLive(seconds) => [TIME_TO_LIVE, usize::from(*seconds), 0],
+        Carried::NoNpdu => [NO_NPDU, 0, 0],
+    })]
 }

@@ -1,7 +1,9 @@
 // The check octets under document 01's two rules, by division of polynomials over single bits: the
 // octets' bits, least significant first, over a generator. No register is shifted.
 
-use crate::ffi::NO_CASE;
+use ffi::NO_CASE;
+use shared::model::checks::Checks;
+use shared::model::trials;
 
 #[derive(Clone, Copy, Debug, PartialEq)]
 pub enum Rule {
@@ -10,34 +12,13 @@ pub enum Rule {
 }
 
 // A generator: its degree, and the exponents of its other terms.
-struct Generator {
-    degree: usize,
-    terms: &'static [usize],
-}
+struct Generator(usize, &'static [usize]);
 
 // x^8 + x^7 + 1, x^16 + x^12 + x^5 + 1.
-const ANNEX_G: [Generator; 2] = [
-    Generator {
-        degree: 8,
-        terms: &[7, 0],
-    },
-    Generator {
-        degree: 16,
-        terms: &[12, 5, 0],
-    },
-];
+const ANNEX_G: [Generator; 2] = [Generator(8, &[7, 0]), Generator(16, &[12, 5, 0])];
 
 // x^8 + x^7 + x^5 + x^3 + x, x^16 + x^15 + x^2 + 1.
-const HOUSE: [Generator; 2] = [
-    Generator {
-        degree: 8,
-        terms: &[7, 5, 3, 1],
-    },
-    Generator {
-        degree: 16,
-        terms: &[15, 2, 0],
-    },
-];
+const HOUSE: [Generator; 2] = [Generator(8, &[7, 5, 3, 1]), Generator(16, &[15, 2, 0])];
 
 impl Rule {
     pub const ALL: [Rule; 2] = [Rule::AnnexG, Rule::House];
@@ -46,16 +27,6 @@ impl Rule {
     pub fn of(number: u8) -> Result<Rule, u8> {
         let mut rules = Rule::ALL.into_iter();
         rules.find(|rule| *rule as u8 == number).ok_or(NO_CASE)
-    }
-
-    // The header check of five octets.
-    pub fn header_check(self, five: [u8; 5]) -> u8 {
-        self.generators()[0].check(&five) as u8
-    }
-
-    // The data check of any octets, as a number.
-    pub fn data_check(self, data: &[u8]) -> u16 {
-        self.generators()[1].check(data)
     }
 
     // The generators of header check and data check.
@@ -67,22 +38,33 @@ impl Rule {
     }
 }
 
+impl Checks for Rule {
+    fn header_check(self, five: [u8; 5]) -> u8 {
+        self.generators()[0].check(&five) as u8
+    }
+
+    fn data_check(self, data: &[u8]) -> u16 {
+        self.generators()[1].check(data)
+    }
+}
+
 impl Generator {
     // The remainder's complement, its highest term as the lowest bit. That all bits are one at the
     // start means that the dividend's first bits are turned.
     fn check(&self, octets: &[u8]) -> u16 {
+        let Generator(degree, terms) = *self;
         let count = 8 * octets.len();
-        let mut bits = vec![false; count + self.degree];
+        let mut bits = vec![false; count + degree];
         for (place, bit) in bits[..count].iter_mut().enumerate() {
             *bit = octets[place / 8] >> (place % 8) & 1 == 1;
         }
-        for bit in &mut bits[..self.degree] {
+        for bit in &mut bits[..degree] {
             *bit = !*bit;
         }
         for place in 0..count {
             if bits[place] {
-                for term in self.terms {
-                    bits[place + self.degree - term] ^= true;
+                for term in terms {
+                    bits[place + degree - term] ^= true;
                 }
             }
         }
@@ -91,16 +73,7 @@ impl Generator {
     }
 }
 
-// Panics unless document 01's trials a to d come out; a and c are Annex G's worked examples.
+// Panics unless document 01's trials come out; a and c are Annex G's worked examples.
 pub fn try_examples() {
-    let header = [0x00, 0x10, 0x05, 0x00, 0x00];
-    let data = [0x01, 0x22, 0x30];
-    assert_eq!(Rule::AnnexG.header_check(header), 0x8C, "trial (a)");
-    assert_eq!(Rule::House.header_check(header), 0x9A, "trial (b)");
-    let sent = |rule: Rule| rule.data_check(&data).to_le_bytes();
-    assert_eq!(sent(Rule::AnnexG), [0x10, 0xBD], "trial (c)");
-    assert_eq!(sent(Rule::House), [0xC7, 0x4B], "trial (d)");
-    for rule in Rule::ALL {
-        assert_eq!(rule.data_check(&[]), 0, "the check of no octets");
-    }
+    trials::try_all(Rule::AnnexG, Rule::House);
 }

@@ -1,15 +1,17 @@
 // The check octets.
 
+use ffi::{lefkanu_calculate_header_crc, lefkanu_crc16_mstp};
+use shared::model::checks::Checks;
+use shared::octets::hex;
+use shared::random::Random;
+use shared::rust::checks::House;
+
+use crate::call::Call;
 use crate::check::Rule;
-use crate::datalink::mstp::opened_header_crc;
-use crate::ffi::{lefkanu_calculate_header_crc, lefkanu_crc16_mstp};
 use crate::inputs::{changed, mstp, one_of, short, LONGEST};
 use crate::lent::Lent;
-use crate::list::hex;
-use crate::outcome::Rust;
-use crate::random::Random;
-use crate::tally::{Call, Tally};
-use crate::util::crc16_mstp;
+use crate::outcome::{model, Rust};
+use crate::tally::Tally;
 
 // How many random inputs there are.
 const RANDOM: usize = 400_000;
@@ -46,9 +48,9 @@ fn header_crc(tally: &mut Tally, random: &mut Random, rule: u8, header: [u8; 5])
     tally.compare(Call {
         answer,
         lent: &mut [&mut crc],
-        model: named.map(|rule| vec![vec![rule.header_check(header).into()]]),
+        model: model(named.map(|rule| usize::from(rule.header_check(header)))),
         rust: match named {
-            Ok(Rule::House) => Rust::Whole(Ok(vec![vec![opened_header_crc(&header).into()]])),
+            Ok(Rule::House) => Rust::whole(Ok(usize::from(House.header_check(header)))),
             _ => Rust::Silent,
         },
         input: &|| format!("rule {rule}, {}", hex(&header)),
@@ -105,9 +107,9 @@ fn crc16(tally: &mut Tally, random: &mut Random, rule: u8, data: &[u8]) {
     tally.compare(Call {
         answer,
         lent: &mut [&mut crc],
-        model: named.map(|rule| vec![vec![rule.data_check(data).into()]]),
+        model: model(named.map(|rule| usize::from(rule.data_check(data)))),
         rust: match named {
-            Ok(Rule::House) => Rust::Whole(Ok(vec![vec![crc16_mstp(data).into()]])),
+            Ok(Rule::House) => Rust::whole(Ok(usize::from(House.data_check(data)))),
             _ => Rust::Silent,
         },
         input: &|| format!("rule {rule}, {}", hex(data)),

@@ -1,15 +1,16 @@
 // Ethernet frames: read, validated by the file's own validator, and written.
 
-use crate::datalink::ethernet::{validate_ethernet_frame, EthernetDataLink, EthernetFrame};
-use crate::datalink::{DataLink, DataLinkAddress};
-use crate::ffi::{lefkanu_ethernet_decode, lefkanu_ethernet_encode, lefkanu_ethernet_validate};
+use ffi::{lefkanu_ethernet_decode, lefkanu_ethernet_encode, lefkanu_ethernet_validate};
+use shared::model::ethernet::{self, Addresses};
+use shared::octets::hex;
+use shared::random::Random;
+use shared::rust;
+
+use crate::call::Call;
 use crate::inputs::{ethernet as inputs, one_of, short, LONGEST};
 use crate::lent::Lent;
-use crate::list::hex;
-use crate::model::ethernet::{self as model, Addresses, FIXED};
-use crate::outcome::{numbers, refusal, Rust, Told};
-use crate::random::Random;
-use crate::tally::{Call, Tally};
+use crate::outcome::{model, Rust};
+use crate::tally::Tally;
 
 // How many frames are read, and how many random ones are written.
 const FRAMES: usize = 1_050_000;
@@ -27,51 +28,26 @@ fn read(tally: &mut Tally, random: &mut Random, frame: &[u8]) {
     let mut dest_mac = Lent::<u8>::new(6, random);
     let mut src_mac = Lent::<u8>::new(6, random);
     let mut payload = Lent::<usize>::new(2, random);
-    let answer = unsafe {
-        lefkanu_ethernet_decode(
-            frame.as_ptr(),
-            frame.len(),
-            dest_mac.array(),
-            src_mac.array(),
-            payload.array(),
-        )
-    };
+    let (octets, size) = (frame.as_ptr(), frame.len());
+    let (to, from, part) = (dest_mac.array(), src_mac.array(), payload.array());
+    let answer = unsafe { lefkanu_ethernet_decode(octets, size, to, from, part) };
     tally.compare(Call {
         answer,
         lent: &mut [&mut dest_mac, &mut src_mac, &mut payload],
-        model: model::decode(frame),
-        rust: Rust::Whole(rust_read(frame)),
+        model: model(ethernet::read(frame)),
+        rust: Rust::whole(rust::ethernet::read(frame)),
         input: &|| hex(frame),
     });
-}
-
-// What the Rust reads.
-fn rust_read(frame: &[u8]) -> Told {
-    let read = EthernetFrame::decode(frame).map_err(refusal)?;
-    let fixed = [&read.ether_type.to_be_bytes()[..], &read.llc_header].concat();
-    assert_eq!(fixed, FIXED, "the octets that the Rust read");
-    assert!(
-        frame.ends_with(&read.payload),
-        "the payload of {}",
-        hex(frame)
-    );
-    let count = read.payload.len();
-    Ok(vec![
-        numbers(&read.dest_mac),
-        numbers(&read.src_mac),
-        numbers(&[frame.len() - count, count]),
-    ])
 }
 
 // Compares the validator of ethernet.rs.
 pub fn validate(tally: &mut Tally, random: &mut Random) {
     inputs::inputs().each(FRAMES, random, &mut |_, frame| {
-        let rust = validate_ethernet_frame(frame).map_err(refusal);
         tally.compare(Call {
             answer: unsafe { lefkanu_ethernet_validate(frame.as_ptr(), frame.len()) },
             lent: &mut [],
-            model: model::validate(frame),
-            rust: Rust::Whole(rust.map(|()| Vec::new())),
+            model: model(ethernet::validate(frame)),
+            rust: Rust::whole(rust::ethernet::validate(frame)),
             input: &|| hex(frame),
         });
     });
@@ -125,39 +101,17 @@ fn fitting(tally: &mut Tally, random: &mut Random, payload: &[u8]) {
 
 // One frame written.
 fn write(tally: &mut Tally, random: &mut Random, pair: Addresses, payload: &[u8], room: usize) {
-    let [dest_mac, src_mac] = pair;
+    let [to, from] = &pair;
     let mut out = Lent::<u8>::new(room, random);
     let mut count = Lent::<usize>::new(1, random);
-    let answer = unsafe {
-        lefkanu_ethernet_encode(
-            &dest_mac,
-            &src_mac,
-            payload.as_ptr(),
-            payload.len(),
-            out.pointer(),
-            room,
-            count.pointer(),
-        )
-    };
+    let (octets, size) = (payload.as_ptr(), payload.len());
+    let (list, counted) = (out.pointer(), count.pointer());
+    let answer = unsafe { lefkanu_ethernet_encode(to, from, octets, size, list, room, counted) };
     tally.compare(Call {
         answer,
         lent: &mut [&mut out, &mut count],
-        model: model::encode(pair, payload, room),
-        rust: rust_write(pair, payload, room),
+        model: model(ethernet::write(pair, payload, room)),
+        rust: Rust::fitting(rust::ethernet::write(pair, payload), room),
         input: &|| format!("{}, {}, room {room}", hex(&pair.concat()), hex(payload)),
     });
-}
-
-// What the Rust writes, once its sending has let the frame pass, if it fits.
-fn rust_write(pair: Addresses, payload: &[u8], room: usize) -> Rust {
-    let [dest_mac, src_mac] = pair;
-    let mut link = EthernetDataLink::new("", src_mac).expect("a link to nothing");
-    if let Err(error) = link.send_frame(payload, &DataLinkAddress::Ethernet(dest_mac)) {
-        return Rust::Whole(Err(refusal(error)));
-    }
-    let frame = EthernetFrame::new(dest_mac, src_mac, payload.to_vec()).encode();
-    match frame.len() {
-        count if count > room => Rust::Silent,
-        count => Rust::Whole(Ok(vec![numbers(&frame), numbers(&[count])])),
-    }
 }

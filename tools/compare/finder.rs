@@ -1,36 +1,28 @@
 // The finder: one call from a place.
 
+use ffi::{lefkanu_find_frame, NONE};
+use shared::model::finder;
+use shared::model::questions::MOST;
+use shared::octets::hex;
+use shared::random::Random;
+use shared::rust;
+
+use crate::call::Call;
 use crate::check::Rule;
-use crate::ffi::{lefkanu_find_frame, NONE};
 use crate::inputs::{one_in, one_of, runs};
 use crate::lent::Lent;
-use crate::list::hex;
-use crate::model::analysis::MOST;
-use crate::model::finder as model;
-use crate::outcome::{numbers, Refusal, Rust};
-use crate::random::Random;
-use crate::rust_finder;
-use crate::tally::{Call, Tally};
+use crate::outcome::{model_or_none, Rust};
+use crate::tally::Tally;
 
-// How many runs there are under each rule, and how often each number is tried that names no rule.
+// How many runs there are under each rule.
 const RUNS: usize = 520_000;
-const UNNAMED: usize = 8;
 
 // Compares the finder, under both rules and under numbers that name none.
 pub fn find_frame(tally: &mut Tally, random: &mut Random) {
-    runs::each(RUNS, random, &mut |random, run| {
-        for rule in 0..2 {
-            let place = place(run, random);
-            find(tally, random, rule, run, place);
-        }
+    runs::under_rules(RUNS, random, &mut |random, rule, run| {
+        let place = place(run, random);
+        find(tally, random, rule, run, place);
     });
-    for rule in 2..=255 {
-        for _ in 0..UNNAMED {
-            let run = runs::inputs().one(random);
-            let place = place(&run, random);
-            find(tally, random, rule, &run, place);
-        }
-    }
 }
 
 // A place to start from: the run's first, any, its end, or one beyond it.
@@ -52,7 +44,7 @@ fn find(tally: &mut Tally, random: &mut Random, rule: u8, run: &[u8], place: usi
     tally.compare(Call {
         answer,
         lent: &mut [&mut report],
-        model: model::find(rule, run, place),
+        model: model_or_none(Rule::of(rule).and_then(|rule| finder::find_frame(rule, run, place))),
         rust: rust_find(rule, run, place),
         input: &|| format!("rule {rule}, place {place}, {}", hex(run)),
     });
@@ -63,6 +55,8 @@ fn rust_find(rule: u8, run: &[u8], place: usize) -> Rust {
     if rule != Rule::House as u8 || run.len() > MOST || place > run.len() {
         return Rust::Silent;
     }
-    let report = rust_finder::find(run, place).ok_or(Refusal::Answer(NONE));
-    Rust::Whole(report.map(|(start, count)| vec![numbers(&[start, count])]))
+    match rust::finder::find(run, place) {
+        Some(report) => Rust::whole(Ok(report)),
+        None => Rust::answer(NONE),
+    }
 }

@@ -1,8 +1,9 @@
 // Every function of the library: its comparison, and which answers must come up in it.
 
-use crate::ffi::{NONE, NO_CASE};
-use crate::random::Random;
-use crate::tally::{Sight, Tally};
+use ffi::{NONE, NO_CASE};
+use shared::random::Random;
+
+use crate::tally::Tally;
 use crate::{analysis, bip, checks, errors, ethernet, finder, log, mstp, readings, validation};
 
 pub struct Function {
@@ -12,229 +13,59 @@ pub struct Function {
     // a count of errors, l a link, m what a message carries, p a pattern; d1 frames that demand 3
     // speaks of, d2 a report that reaches from the damage over a head.
     pub answers: &'static [u8],
-    pub sights: &'static [Sight],
+    pub sights: &'static str,
     pub compare: fn(&mut Tally, &mut Random),
 }
 
-const MSTP_FINDINGS: &[Sight] = &[
-    ('e', 1, 0),
-    ('e', 3, 0),
-    ('e', 4, 0),
-    ('e', 5, 0),
-    ('e', 6, 0),
-    ('e', 7, 1),
-    ('e', 8, 0),
-    ('n', 0, 0),
-    ('n', 6, 0),
-    ('n', 7, 0),
-    ('w', 3, 1),
-    ('w', 3, 2),
-];
+const MSTP_FINDINGS: &str = "e1 e3 e4 e5 e6 e7.1 e8 n0 n6 n7 w3.1 w3.2";
+const IP_FINDINGS: &str = "e1 e2 e3 e5 e8 n0 n4 w4.1 w4.2";
+const ETHERNET_FINDINGS: &str = "e1 e2 e7.2 e7.3 n0 n3 w1 w3.3";
+const ANY_FINDINGS: &str =
+    "e1 e2 e4 e5 e6 e7.1 e7.3 e7.4 e8 l0 l1 l2 l3 n0 n6 w1 w3.1 w3.2 w3.3 w4.1 w4.2";
+const PATTERNS: &str = "p1 p2 p3 p4";
+const ANALYSIS: &str = "l0 l1 l2 l3 p1 p2 p3 p4";
+const MESSAGES: &str = "m1 m2 m3";
+const DEMAND_3: &str = "d1 d2";
 
-const IP_FINDINGS: &[Sight] = &[
-    ('e', 1, 0),
-    ('e', 2, 0),
-    ('e', 3, 0),
-    ('e', 5, 0),
-    ('e', 8, 0),
-    ('n', 0, 0),
-    ('n', 4, 0),
-    ('w', 4, 1),
-    ('w', 4, 2),
-];
+// Each by its name, answers, what its results have, and comparison.
+macro_rules! functions {
+    ($($name:literal $answers:expr, $sights:expr, $compare:path;)*) => {
+        &[$(
+            Function {
+                name: $name,
+                answers: &$answers,
+                sights: $sights,
+                compare: $compare,
+            },
+        )*]
+    };
+}
 
-const ETHERNET_FINDINGS: &[Sight] = &[
-    ('e', 1, 0),
-    ('e', 2, 0),
-    ('e', 7, 2),
-    ('e', 7, 3),
-    ('n', 0, 0),
-    ('n', 3, 0),
-    ('w', 1, 0),
-    ('w', 3, 3),
-];
-
-const ANY_FINDINGS: &[Sight] = &[
-    ('e', 1, 0),
-    ('e', 2, 0),
-    ('e', 4, 0),
-    ('e', 5, 0),
-    ('e', 6, 0),
-    ('e', 7, 1),
-    ('e', 7, 3),
-    ('e', 7, 4),
-    ('e', 8, 0),
-    ('l', 0, 0),
-    ('l', 1, 0),
-    ('l', 2, 0),
-    ('l', 3, 0),
-    ('n', 0, 0),
-    ('n', 6, 0),
-    ('w', 1, 0),
-    ('w', 3, 1),
-    ('w', 3, 2),
-    ('w', 3, 3),
-    ('w', 4, 1),
-    ('w', 4, 2),
-];
-
-const PATTERNS: &[Sight] = &[('p', 1, 0), ('p', 2, 0), ('p', 3, 0), ('p', 4, 0)];
-
-const ANALYSIS: &[Sight] = &[
-    ('l', 0, 0),
-    ('l', 1, 0),
-    ('l', 2, 0),
-    ('l', 3, 0),
-    ('p', 1, 0),
-    ('p', 2, 0),
-    ('p', 3, 0),
-    ('p', 4, 0),
-];
-
-const MESSAGES: &[Sight] = &[('m', 1, 0), ('m', 2, 0), ('m', 3, 0)];
-
-const DEMAND_3: &[Sight] = &[('d', 1, 0), ('d', 2, 0)];
-
-pub const ALL: [Function; 23] = [
-    Function {
-        name: "data_link_error",
-        answers: &[0, 1, 2],
-        sights: &[],
-        compare: errors::data_link_error,
-    },
-    Function {
-        name: "calculate_header_crc",
-        answers: &[0, NO_CASE],
-        sights: &[],
-        compare: checks::calculate_header_crc,
-    },
-    Function {
-        name: "crc16_mstp",
-        answers: &[0, NO_CASE],
-        sights: &[],
-        compare: checks::data_crc,
-    },
-    Function {
-        name: "mstp_decode",
-        answers: &[0, 1, 2, 3, 4, 5, 6, NO_CASE],
-        sights: &[],
-        compare: mstp::decode,
-    },
-    Function {
-        name: "mstp_encode",
-        answers: &[0, 7, 8, NO_CASE],
-        sights: &[],
-        compare: mstp::encode,
-    },
-    Function {
-        name: "bvlc_decode",
-        answers: &[0, 11, 12, 13],
-        sights: &[],
-        compare: bip::decode,
-    },
-    Function {
-        name: "bvlc_encode",
-        answers: &[0, 16, NO_CASE],
-        sights: &[],
-        compare: bip::encode,
-    },
-    Function {
-        name: "process_bvlc_message",
-        answers: &[0, 11, 12, 13, 14, 15],
-        sights: MESSAGES,
-        compare: bip::process,
-    },
-    Function {
-        name: "ethernet_decode",
-        answers: &[0, 21, 22, 23],
-        sights: &[],
-        compare: ethernet::decode,
-    },
-    Function {
-        name: "ethernet_validate",
-        answers: &[0, 21, 24, 22, 23],
-        sights: &[],
-        compare: ethernet::validate,
-    },
-    Function {
-        name: "ethernet_encode",
-        answers: &[0, 24, 25],
-        sights: &[],
-        compare: ethernet::encode,
-    },
-    Function {
-        name: "validate_mstp_frame",
-        answers: &[0, NO_CASE],
-        sights: MSTP_FINDINGS,
-        compare: validation::mstp_frame,
-    },
-    Function {
-        name: "validate_bacnet_ip_frame",
-        answers: &[0],
-        sights: IP_FINDINGS,
-        compare: validation::bacnet_ip_frame,
-    },
-    Function {
-        name: "validate_ethernet_frame",
-        answers: &[0],
-        sights: ETHERNET_FINDINGS,
-        compare: validation::ethernet_frame,
-    },
-    Function {
-        name: "validate_frame",
-        answers: &[0, NO_CASE],
-        sights: ANY_FINDINGS,
-        compare: validation::any_frame,
-    },
-    Function {
-        name: "calculate_frame_statistics",
-        answers: &[0, 31],
-        sights: &[],
-        compare: analysis::frame_statistics,
-    },
-    Function {
-        name: "detect_patterns",
-        answers: &[0, 31, 32],
-        sights: PATTERNS,
-        compare: analysis::detect_patterns,
-    },
-    Function {
-        name: "analyze_frame",
-        answers: &[0, 31, 32, NO_CASE],
-        sights: ANALYSIS,
-        compare: analysis::whole_analysis,
-    },
-    Function {
-        name: "find_frame",
-        answers: &[0, 31, 33, NONE, NO_CASE],
-        sights: &[],
-        compare: finder::find_frame,
-    },
-    Function {
-        name: "count_frames",
-        answers: &[0, 31, NO_CASE],
-        sights: &[],
-        compare: readings::count_frames,
-    },
-    Function {
-        name: "read_frames",
-        answers: &[0, 31, 32, NO_CASE],
-        sights: DEMAND_3,
-        compare: readings::read_frames,
-    },
-    Function {
-        name: "read_record",
-        answers: &[0, 41, 42, 43, 44, 47, NONE],
-        sights: &[],
-        compare: log::read_record,
-    },
-    Function {
-        name: "append",
-        answers: &[0, 42, 43, 46, 47],
-        sights: &[],
-        compare: log::append,
-    },
-];
+pub const ALL: &[Function] = functions! {
+    "data_link_error" [0, 1, 2], "", errors::data_link_error;
+    "calculate_header_crc" [0, NO_CASE], "", checks::calculate_header_crc;
+    "crc16_mstp" [0, NO_CASE], "", checks::data_crc;
+    "mstp_decode" [0, 1, 2, 3, 4, 5, 6, NO_CASE], "", mstp::decode;
+    "mstp_encode" [0, 7, 8, NO_CASE], "", mstp::encode;
+    "bvlc_decode" [0, 11, 12, 13], "", bip::decode;
+    "bvlc_encode" [0, 16, NO_CASE], "", bip::encode;
+    "process_bvlc_message" [0, 11, 12, 13, 14, 15], MESSAGES, bip::process;
+    "ethernet_decode" [0, 21, 22, 23], "", ethernet::decode;
+    "ethernet_validate" [0, 21, 24, 22, 23], "", ethernet::validate;
+    "ethernet_encode" [0, 24, 25], "", ethernet::encode;
+    "validate_mstp_frame" [0, NO_CASE], MSTP_FINDINGS, validation::mstp_frame;
+    "validate_bacnet_ip_frame" [0], IP_FINDINGS, validation::bacnet_ip_frame;
+    "validate_ethernet_frame" [0], ETHERNET_FINDINGS, validation::ethernet_frame;
+    "validate_frame" [0, NO_CASE], ANY_FINDINGS, validation::any_frame;
+    "calculate_frame_statistics" [0, 31], "", analysis::frame_statistics;
+    "detect_patterns" [0, 31, 32], PATTERNS, analysis::detect_patterns;
+    "analyze_frame" [0, 31, 32, NO_CASE], ANALYSIS, analysis::whole_analysis;
+    "find_frame" [0, 31, 33, NONE, NO_CASE], "", finder::find_frame;
+    "count_frames" [0, 31, NO_CASE], "", readings::count_frames;
+    "read_frames" [0, 31, 32, NO_CASE], DEMAND_3, readings::read_frames;
+    "read_record" [0, 41, 42, 43, 44, 47, NONE], "", log::read_record;
+    "append" [0, 42, 43, 46, 47], "", log::append;
+};
 
 // Panics unless these are the functions that the library's C header declares.
 pub fn try_names() {

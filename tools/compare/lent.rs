@@ -3,38 +3,30 @@
 
 use std::fmt::Write;
 
-use crate::random::Random;
+use shared::random::Random;
 
 // How many guard words stand on each side.
 const GUARDS: usize = 4;
 
 // A number as it is lent.
 pub trait Word: Copy + PartialEq {
-    // One that looks random.
-    fn any(random: &mut Random) -> Self;
+    // The low bits of a number.
+    fn of(wide: u64) -> Self;
 
     // The number in 64 bits.
     fn wide(self) -> u64;
-
-    // Another number.
-    fn other(self) -> Self;
 }
 
 macro_rules! words {
     ($($word:ty)*) => {
         $(
             impl Word for $word {
-                fn any(random: &mut Random) -> $word {
-                    let [high, low] = [0; 2].map(|_| random.below(1 << 32) as u64);
-                    (high << 32 | low) as $word
+                fn of(wide: u64) -> $word {
+                    wide as $word
                 }
 
                 fn wide(self) -> u64 {
                     self as u64
-                }
-
-                fn other(self) -> $word {
-                    self ^ 1
                 }
             }
         )*
@@ -52,7 +44,11 @@ pub struct Lent<T> {
 impl<T: Word> Lent<T> {
     // Memory of so many numbers.
     pub fn new(count: usize, random: &mut Random) -> Lent<T> {
-        let before: Vec<T> = (0..count + 2 * GUARDS).map(|_| T::any(random)).collect();
+        let mut any = || {
+            let [high, low] = [0; 2].map(|_| random.below(1 << 32) as u64);
+            T::of(high << 32 | low)
+        };
+        let before: Vec<T> = (0..count + 2 * GUARDS).map(|_| any()).collect();
         let after = before.clone();
         Lent { before, after }
     }
@@ -109,10 +105,8 @@ impl<T: Word> Memory for Lent<T> {
             return false;
         };
         let rest = GUARDS + front.len();
-        memory
-            .iter()
-            .map(|word| word.wide())
-            .eq(front.iter().copied())
+        let mut pairs = memory.iter().zip(front);
+        pairs.all(|(word, number)| word.wide() == *number)
             && self.after[..GUARDS] == self.before[..GUARDS]
             && self.after[rest..] == self.before[rest..]
     }
@@ -130,6 +124,6 @@ impl<T: Word> Memory for Lent<T> {
 
     fn spoil(&mut self, place: usize) {
         let word = &mut self.after[GUARDS + place];
-        *word = word.other();
+        *word = T::of(word.wide() ^ 1);
     }
 }

@@ -1,13 +1,15 @@
 // The log: a record read, and one appended.
 
-use crate::ffi::{lefkanu_append, lefkanu_read_record};
+use ffi::{lefkanu_append, lefkanu_read_record};
+use shared::model::log::{self, record};
+use shared::octets::hex;
+use shared::random::Random;
+
+use crate::call::Call;
 use crate::inputs::{changed, logs, one_in, one_of, short, LONGEST};
 use crate::lent::Lent;
-use crate::list::hex;
-use crate::model::log as model;
-use crate::outcome::Rust;
-use crate::random::Random;
-use crate::tally::{Call, Tally};
+use crate::outcome::{model, model_or_none, Rust};
+use crate::tally::Tally;
 
 // How many random logs are read, each from several ends, and how many records are appended.
 const LOGS: usize = 100_000;
@@ -23,10 +25,7 @@ pub fn read_record(tally: &mut Tally, random: &mut Random) {
         }
     };
     short(random, &mut each_end);
-    let two = [
-        model::record(1, &[0x55, 0xFF, 0x01]),
-        model::record(3, &[0x00]),
-    ];
+    let two = [record(1, &[0x55, 0xFF, 0x01]), record(3, &[0x00])];
     changed(&two.concat(), random, &mut each_end);
     let mut log = random.octets(1600);
     for kind in 0..=4 {
@@ -40,7 +39,7 @@ pub fn read_record(tally: &mut Tally, random: &mut Random) {
         for length in logs::BORDERS {
             let payload = random.octets(length + 1);
             for front in [0, 1, 2] {
-                let mut log = model::record(kind, &payload);
+                let mut log = record(kind, &payload);
                 let trailer = log.len() - 2;
                 log[trailer..].copy_from_slice(&(length as u16).to_be_bytes());
                 log.drain(..front.min(length));
@@ -56,7 +55,7 @@ pub fn read_record(tally: &mut Tally, random: &mut Random) {
     }
     for length in LONGEST.into_iter().chain([100_000]) {
         let mut log = random.octets(length);
-        log.extend(model::record(1, &[0x55; 1514]));
+        log.extend(record(1, &[0x55; 1514]));
         for end in [0, 1, 3, length, log.len(), log.len() - 1, log.len() + 1] {
             read(tally, random, &log, end);
         }
@@ -65,12 +64,12 @@ pub fn read_record(tally: &mut Tally, random: &mut Random) {
 
 // One record read.
 fn read(tally: &mut Tally, random: &mut Random, log: &[u8], end: usize) {
-    let mut record = Lent::<usize>::new(3, random);
-    let answer = unsafe { lefkanu_read_record(log.as_ptr(), log.len(), end, record.array()) };
+    let mut memory = Lent::<usize>::new(3, random);
+    let answer = unsafe { lefkanu_read_record(log.as_ptr(), log.len(), end, memory.array()) };
     tally.compare(Call {
         answer,
-        lent: &mut [&mut record],
-        model: model::read(log, end),
+        lent: &mut [&mut memory],
+        model: model_or_none(log::read(log, end)),
         rust: Rust::Silent,
         input: &|| format!("end {end}, {}", hex(log)),
     });
@@ -128,23 +127,14 @@ fn behind(
     let payload = random.octets(length);
     let mut memory = Lent::<u8>::new(buffer, random);
     let mut new_used = Lent::<usize>::new(1, random);
-    let model = model::append(memory.before(), used, kind, &payload);
-    let answer = unsafe {
-        lefkanu_append(
-            memory.pointer(),
-            buffer,
-            used,
-            kind,
-            payload.as_ptr(),
-            payload.len(),
-            new_used.pointer(),
-        )
-    };
+    let appended = log::append(memory.before(), used, kind, &payload);
+    let (list, octets, after) = (memory.pointer(), payload.as_ptr(), new_used.pointer());
+    let answer = unsafe { lefkanu_append(list, buffer, used, kind, octets, length, after) };
     let before = memory.before().to_vec();
     tally.compare(Call {
         answer,
         lent: &mut [&mut memory, &mut new_used],
-        model,
+        model: model(appended),
         rust: Rust::Silent,
         input: &|| {
             let (before, payload) = (hex(&before), hex(&payload));

@@ -3,10 +3,11 @@
 // since the Rust prints to standard output when it sends a frame.
 
 mod analysis;
-mod as_house;
 mod bip;
+mod call;
 mod check;
 mod checks;
+mod demand_3;
 mod errors;
 mod ethernet;
 mod finder;
@@ -14,44 +15,14 @@ mod functions;
 mod inputs;
 mod lent;
 mod log;
-mod model;
 mod mstp;
+mod other_rule;
 mod outcome;
 mod readings;
 mod spoil;
 mod tally;
 mod validation;
-
-#[path = "../../bindings/rust/src/ffi.rs"]
-mod ffi;
-
-// What tools/oracle works out from document 01, and a finder over the Rust's validator.
-#[allow(dead_code)]
-#[path = "../oracle/findings.rs"]
-mod findings;
-#[allow(dead_code)]
-#[path = "../oracle/list.rs"]
-mod list;
-#[allow(dead_code)]
-#[path = "../oracle/octets.rs"]
-mod octets;
-#[allow(dead_code)]
-#[path = "../oracle/patterns.rs"]
-mod patterns;
-#[allow(dead_code)]
-#[path = "../oracle/random.rs"]
-mod random;
-#[path = "../bench/rust_finder.rs"]
-mod rust_finder;
-#[allow(dead_code)]
-#[path = "../oracle/rust_findings.rs"]
-mod rust_findings;
-#[allow(dead_code)]
-#[path = "../oracle/statistics.rs"]
-mod statistics;
-
-// The Rust's own modules, and the stand-in for one that isn't among its files.
-include!(concat!(env!("COMPARE_RUST"), "/modules.rs"));
+mod written;
 
 use std::fs::File;
 use std::io::Write;
@@ -61,8 +32,9 @@ use std::sync::atomic::{AtomicUsize, Ordering};
 use std::sync::mpsc::channel;
 use std::thread::scope;
 
+use shared::random::Random;
+
 use crate::functions::{Function, ALL};
-use crate::random::Random;
 use crate::spoil::Spoiler;
 use crate::tally::{Tally, HEAD};
 
@@ -81,8 +53,6 @@ fn main() -> ExitCode {
         return usage();
     };
     check::try_examples();
-    patterns::try_examples();
-    findings::try_example();
     functions::try_names();
     // The script opens descriptor 3, and nothing else here uses it.
     let mut out = unsafe { File::from_raw_fd(3) };
@@ -142,7 +112,7 @@ fn compare(function: &Function, seed: u64, index: usize, sabotage: bool) -> Tall
 // nothing is missing; under sabotage, each change was noticed and nothing else.
 fn conclude(tallies: &[Tally], sabotage: bool, out: &mut File) -> bool {
     let mut well = tallies.len() == ALL.len();
-    for (tally, function) in tallies.iter().zip(&ALL) {
+    for (tally, function) in tallies.iter().zip(ALL) {
         for gap in tally.gaps(function.answers, function.sights) {
             eprintln!("lefkanu_{}: {gap}", tally.name);
             well = false;

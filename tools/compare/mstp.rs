@@ -1,91 +1,63 @@
 // MS/TP frames, read and written.
 
-use crate::as_house::as_house;
+use ffi::{lefkanu_mstp_decode, lefkanu_mstp_encode, NO_CASE};
+use shared::model::mstp::{self, size, LAST_TYPE};
+use shared::octets::hex;
+use shared::random::Random;
+use shared::rust;
+
+use crate::call::Call;
 use crate::check::Rule;
-use crate::datalink::mstp::{MstpFrame, MstpFrameType};
-use crate::ffi::{lefkanu_mstp_decode, lefkanu_mstp_encode, NO_CASE};
 use crate::inputs::{mstp as inputs, one_of, short, LONGEST};
 use crate::lent::Lent;
-use crate::list::hex;
-use crate::model::mstp as model;
-use crate::outcome::{numbers, refusal, Refusal, Rust, Told};
-use crate::random::Random;
-use crate::tally::{Call, Tally};
+use crate::other_rule::{as_annex_g, as_house};
+use crate::outcome::{model, Refusal, Rust, Told};
+use crate::tally::Tally;
+use crate::written::InMemory;
 
-pub use crate::model::mstp::size;
-
-// How many frames are read under each rule, and how often each number is tried that names no rule.
+// How many frames are read under each rule, and how many random ones are written.
 const FRAMES: usize = 550_000;
-const UNNAMED: usize = 8;
-
-// How many random frames are written.
 const WRITTEN: usize = 750_000;
 
 // Compares reading, under both rules and under numbers that name none.
 pub fn decode(tally: &mut Tally, random: &mut Random) {
-    let frames = inputs::inputs();
-    frames.each(FRAMES, random, &mut |random, frame| {
-        for rule in 0..2 {
-            read(tally, random, rule, frame);
-        }
+    inputs::inputs().under_rules(FRAMES, random, &mut |random, rule, frame| {
+        read(tally, random, rule, frame);
     });
-    for rule in 2..=255 {
-        for _ in 0..UNNAMED {
-            let frame = frames.one(random);
-            read(tally, random, rule, &frame);
-        }
-    }
 }
 
 // One frame read.
 fn read(tally: &mut Tally, random: &mut Random, rule: u8, frame: &[u8]) {
     let mut header = Lent::<usize>::new(8, random);
     let answer = unsafe { lefkanu_mstp_decode(rule, frame.as_ptr(), frame.len(), header.array()) };
+    let named = Rule::of(rule);
     tally.compare(Call {
         answer,
         lent: &mut [&mut header],
-        model: model::decode(rule, frame),
-        rust: match Rule::of(rule) {
-            Ok(Rule::House) => Rust::Whole(rust_read(frame, frame)),
-            Ok(Rule::AnnexG) => Rust::ButChecks(rust_read(frame, &as_house(frame))),
+        model: model(named.and_then(|rule| mstp::read(rule, frame))),
+        rust: match named {
+            Ok(Rule::House) => Rust::whole(rust::mstp::read(frame)),
+            Ok(Rule::AnnexG) => Rust::ButChecks(rust_read(frame)),
             Err(_) => Rust::Silent,
         },
         input: &|| format!("rule {rule}, {}", hex(frame)),
     });
 }
 
-// What the Rust reads of a frame as the house rule has it. The checks are told as the frame itself
-// has them.
-fn rust_read(frame: &[u8], house: &[u8]) -> Told {
-    let read = MstpFrame::decode(house).map_err(refusal)?;
-    let count = read.data.len();
-    assert_eq!(
-        read.data,
-        frame[8..8 + count],
-        "the data that the Rust read"
-    );
-    assert_eq!(usize::from(read.data_length), count, "its length");
-    assert_eq!(
-        read.header_crc, house[7],
-        "the header check that the Rust read"
-    );
-    let data_crc = match read.data_crc {
-        None => 0,
-        Some(crc) => {
-            assert_eq!(crc.to_le_bytes(), house[8 + count..], "the data check");
-            usize::from(frame[9 + count]) * 256 + usize::from(frame[8 + count])
-        }
+// What the Rust reads of a frame under Annex G, as the house rule has it. The checks are told as the
+// frame itself has them.
+fn rust_read(frame: &[u8]) -> Told {
+    let house = as_house(frame);
+    let mut read = rust::mstp::read(&house).map_err(Refusal::Error)?;
+    let end = 8 + read.data.len();
+    let checks = |frame: &[u8]| {
+        let sent = frame[end..].first_chunk().copied();
+        (frame[7], sent.map(u16::from_le_bytes))
     };
-    Ok(vec![numbers(&[
-        read.frame_type as usize,
-        read.destination.into(),
-        read.source.into(),
-        frame[7].into(),
-        read.data_crc.is_some().into(),
-        data_crc,
-        8,
-        count,
-    ])])
+    let told = (read.header_check, read.data_check);
+    assert_eq!(told, checks(&house), "the checks that the Rust read");
+    (read.header_check, read.data_check) = checks(frame);
+    Ok(read.written())
 }
 
 // All data of two octets and fewer, all pairs of addresses, data of every length up to 600 with every
@@ -100,8 +72,7 @@ pub fn encode(tally: &mut Tally, random: &mut Random) {
         let [destination, source] = addresses.to_be_bytes();
         for rule in 0..2 {
             let kind = random.below(8) as u8;
-            let length = random.below(4);
-            let data = random.octets(length);
+            let data = random.fewer(4);
             fitting(tally, random, rule, [kind, destination, source], &data);
         }
     }
@@ -170,56 +141,43 @@ fn write(
     data: &[u8],
     room: usize,
 ) {
-    let [kind, destination, source] = three;
+    let [kind, to, from] = three;
     let mut out = Lent::<u8>::new(room, random);
     let mut count = Lent::<usize>::new(1, random);
-    let answer = unsafe {
-        lefkanu_mstp_encode(
-            rule,
-            kind,
-            destination,
-            source,
-            data.as_ptr(),
-            data.len(),
-            out.pointer(),
-            room,
-            count.pointer(),
-        )
-    };
+    let (octets, length) = (data.as_ptr(), data.len());
+    let (list, counted) = (out.pointer(), count.pointer());
+    let answer =
+        unsafe { lefkanu_mstp_encode(rule, kind, to, from, octets, length, list, room, counted) };
     tally.compare(Call {
         answer,
         lent: &mut [&mut out, &mut count],
-        model: model::encode(rule, three, data, room),
+        model: model(written(rule, three, data, room)),
         rust: rust_write(rule, three, data, room),
         input: &|| format!("rule {rule}, {}, {}, room {room}", hex(&three), hex(data)),
     });
 }
 
+// What document 01 says of writing.
+fn written(rule: u8, three: [u8; 3], data: &[u8], room: usize) -> Result<Vec<u8>, u8> {
+    let rule = Rule::of(rule)?;
+    if three[0] > LAST_TYPE {
+        return Err(NO_CASE);
+    }
+    mstp::write(rule, three, data, room)
+}
+
 // What the Rust writes, if it fits; under Annex G with that rule's checks for its own.
 fn rust_write(rule: u8, three: [u8; 3], data: &[u8], room: usize) -> Rust {
-    let [kind, destination, source] = three;
     let Ok(rule) = Rule::of(rule) else {
         return Rust::Silent;
     };
-    let Some(kind) = MstpFrameType::from_u8(kind) else {
-        return Rust::Whole(Err(Refusal::Answer(NO_CASE)));
+    let Some(written) = rust::mstp::write(three, data) else {
+        return Rust::answer(NO_CASE);
     };
-    let mut frame = match MstpFrame::new(kind, destination, source, data.to_vec()) {
-        Ok(frame) => frame.encode(),
-        Err(error) => return Rust::Whole(Err(refusal(error))),
-    };
-    if frame.len() > room {
-        return Rust::Silent;
-    }
-    if let Rule::AnnexG = rule {
-        frame[7] = rule.header_check(std::array::from_fn(|index| frame[2 + index]));
-        if !data.is_empty() {
-            frame[8 + data.len()..].copy_from_slice(&rule.data_check(data).to_le_bytes());
+    match written {
+        Ok(frame) if rule == Rule::AnnexG && frame.len() <= room => {
+            Rust::ButChecks(Ok(as_annex_g(&frame).written()))
         }
-    }
-    let written = Ok(vec![numbers(&frame), numbers(&[frame.len()])]);
-    match rule {
-        Rule::AnnexG => Rust::ButChecks(written),
-        Rule::House => Rust::Whole(written),
+        written => Rust::fitting(written, room),
     }
 }

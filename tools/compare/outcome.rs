@@ -1,17 +1,27 @@
 // What a call answers and leaves in lent memory: by the model, and by the Rust where it has an answer.
 
-use crate::datalink::DataLinkError;
+use ffi::NONE;
+use shared::model::questions::RustError;
 
-// What stands at the front of each lent memory after a call, number by number.
-pub type Written = Vec<Vec<u64>>;
+use crate::written::{InMemory, Written};
 
 // What is written where the answer is 0, else the answer: a question, NONE or NO_CASE.
 pub type Model = Result<Written, u8>;
 
+// What the model gives as it stands in lent memory.
+pub fn model<T: InMemory>(result: Result<T, u8>) -> Model {
+    result.map(|result| result.written())
+}
+
+// The same, where there may be no result.
+pub fn model_or_none<T: InMemory>(result: Result<Option<T>, u8>) -> Model {
+    model(result.and_then(|result| result.ok_or(NONE)))
+}
+
 // A refusal of the Rust.
 pub enum Refusal {
-    // Its error: 1 InvalidFrame, 2 CrcError, as lefkanu_data_link_error has them.
-    Error(u8),
+    // Its error.
+    Error(RustError),
     // What the library must answer, where the Rust says None: NONE or NO_CASE.
     Answer(u8),
 }
@@ -28,17 +38,25 @@ pub enum Rust {
     ButChecks(Told),
 }
 
-// Numbers as they stand in a lent memory.
-pub fn numbers<T: Copy + TryInto<u64>>(numbers: &[T]) -> Vec<u64> {
-    let wide = |number: &T| (*number).try_into().ok().expect("64 bits");
-    numbers.iter().map(wide).collect()
-}
+impl Rust {
+    // It judges all of the answer.
+    pub fn whole<T: InMemory>(result: Result<T, RustError>) -> Rust {
+        Rust::Whole(match result {
+            Ok(result) => Ok(result.written()),
+            Err(error) => Err(Refusal::Error(error)),
+        })
+    }
 
-// The refusal that the Rust's error is.
-pub fn refusal(error: DataLinkError) -> Refusal {
-    Refusal::Error(match error {
-        DataLinkError::InvalidFrame => 1,
-        DataLinkError::CrcError => 2,
-        _ => panic!("an error of no question: {error}"),
-    })
+    // It judges what it writes, if that fits so much room.
+    pub fn fitting(result: Result<Vec<u8>, RustError>, room: usize) -> Rust {
+        match result {
+            Ok(octets) if octets.len() > room => Rust::Silent,
+            result => Rust::whole(result),
+        }
+    }
+
+    // The library must give an answer: NONE or NO_CASE.
+    pub fn answer(answer: u8) -> Rust {
+        Rust::Whole(Err(Refusal::Answer(answer)))
+    }
 }

@@ -1,8 +1,10 @@
 // Sabotage: some answers of each function's model, of the Rust or of the library are changed, one of
 // each way that can be, and each must be counted as a difference.
 
+use shared::model::questions::RustError;
+
+use crate::call::Call;
 use crate::outcome::{Refusal, Rust};
-use crate::tally::Call;
 
 // How many inputs are left alone before each change.
 const STEP: u64 = 997;
@@ -79,9 +81,9 @@ fn rust_opinion(call: &mut Call) -> bool {
         return false;
     };
     *told = match told {
-        Ok(_) => Err(Refusal::Error(1)),
-        Err(Refusal::Error(error)) => Err(Refusal::Error(3 - *error)),
         Err(Refusal::Answer(answer)) => Err(Refusal::Answer(*answer ^ 1)),
+        Err(Refusal::Error(RustError::InvalidFrame)) => Err(Refusal::Error(RustError::CrcError)),
+        _ => Err(Refusal::Error(RustError::InvalidFrame)),
     };
     true
 }

@@ -1,11 +1,10 @@
-// The comparison of one call, and what is counted for each function.
+// What is counted for each function, call by call.
 
 use std::collections::BTreeMap;
 use std::fmt::Write;
 
-use crate::ffi::lefkanu_data_link_error;
-use crate::lent::Memory;
-use crate::outcome::{Model, Refusal, Rust, Told, Written};
+use crate::call::Call;
+use crate::outcome::Rust;
 use crate::spoil::Spoiler;
 
 // The fewest inputs that each function must be compared on.
@@ -16,77 +15,6 @@ const SHOWN: u64 = 4;
 
 // A kind of finding, pattern or message that an answer has: a letter, a kind and a reason.
 pub type Sight = (char, usize, usize);
-
-// A call that was made: what it answered and left, and what the model and the Rust say.
-pub struct Call<'a> {
-    pub answer: u8,
-    pub lent: &'a mut [&'a mut dyn Memory],
-    pub model: Model,
-    pub rust: Rust,
-    pub input: &'a dyn Fn() -> String,
-}
-
-impl Call<'_> {
-    // Whether the model has the same answer and memory.
-    fn as_model(&self) -> bool {
-        match &self.model {
-            Ok(written) => self.answer == 0 && self.holds(written),
-            Err(answer) => self.answer == *answer && self.untouched(),
-        }
-    }
-
-    // Whether the Rust has nothing against it.
-    fn as_rust(&self) -> bool {
-        match &self.rust {
-            Rust::Silent => true,
-            Rust::Whole(told) | Rust::ButChecks(told) => self.as_told(told),
-        }
-    }
-
-    // Whether this is what the Rust told.
-    fn as_told(&self, told: &Told) -> bool {
-        match told {
-            Ok(written) => self.answer == 0 && self.holds(written),
-            Err(Refusal::Error(error)) => {
-                self.answer != 0 && unsafe { lefkanu_data_link_error(self.answer) } == *error
-            }
-            Err(Refusal::Answer(answer)) => self.answer == *answer,
-        }
-    }
-
-    // Whether each lent memory has its numbers in front, and all else is as it was.
-    fn holds(&self, written: &Written) -> bool {
-        assert_eq!(self.lent.len(), written.len(), "lent memories");
-        let mut pairs = self.lent.iter().zip(written);
-        pairs.all(|(memory, front)| memory.holds(front))
-    }
-
-    // Whether all is as it was.
-    fn untouched(&self) -> bool {
-        self.lent.iter().all(|memory| memory.holds(&[]))
-    }
-
-    // The call in words, with both opinions.
-    fn text(&self) -> String {
-        let memory = |memory: &&mut dyn Memory| format!(" [{}]", memory.changes().trim());
-        let lent: String = self.lent.iter().map(memory).collect();
-        let model = match &self.model {
-            Ok(written) => format!("0 {written:x?}"),
-            Err(answer) => format!("{answer}"),
-        };
-        let rust = match &self.rust {
-            Rust::Silent => "silent".to_string(),
-            Rust::Whole(told) | Rust::ButChecks(told) => match told {
-                Ok(written) => format!("accepts {written:x?}"),
-                Err(Refusal::Error(error)) => format!("error {error}"),
-                Err(Refusal::Answer(answer)) => format!("{answer}"),
-            },
-        };
-        let input = (self.input)();
-        let ours = self.answer;
-        format!("{input}\n  ours: {ours}{lent}\n  model: {model}\n  the Rust: {rust}")
-    }
-}
 
 // What was counted for a function.
 pub struct Tally {
@@ -146,7 +74,7 @@ impl Tally {
     }
 
     // What is wrong with the coverage: too few inputs, answers or sights that never came.
-    pub fn gaps(&self, answers: &[u8], sights: &[Sight]) -> Vec<String> {
+    pub fn gaps(&self, answers: &[u8], sights: &str) -> Vec<String> {
         let mut gaps = Vec::new();
         if self.inputs < LEAST {
             gaps.push(format!("only {} inputs", self.inputs));
@@ -154,9 +82,10 @@ impl Tally {
         let unseen = |answer: &&u8| self.answers[usize::from(**answer)] == 0;
         let missing = answers.iter().filter(unseen);
         gaps.extend(missing.map(|answer| format!("no answer {}", answer_text(*answer))));
-        let unseen = |sight: &&Sight| !self.sights.contains_key(sight);
-        let missing = sights.iter().filter(unseen);
-        gaps.extend(missing.map(|sight| format!("no {}", sight_text(sight))));
+        let seen: Vec<String> = self.sights.keys().map(sight_text).collect();
+        let unseen = |sight: &&str| seen.iter().all(|seen| seen != sight);
+        let missing = sights.split_whitespace().filter(unseen);
+        gaps.extend(missing.map(|sight| format!("no {sight}")));
         gaps
     }
 

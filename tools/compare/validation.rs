@@ -1,31 +1,31 @@
 // The validators of validation.rs.
 
-use crate::as_house::as_house;
-use crate::check::Rule;
-use crate::datalink::validation::{
+use bacnet::datalink::validation::{
     validate_bacnet_ip_frame, validate_ethernet_frame, validate_frame, validate_mstp_frame,
     ValidationResult,
 };
-use crate::ffi::{
+use ffi::{
     lefkanu_validate_bacnet_ip_frame, lefkanu_validate_ethernet_frame, lefkanu_validate_frame,
     lefkanu_validate_mstp_frame, RESULT_NUMBERS,
 };
-use crate::findings::{self, Findings};
-use crate::inputs::{any, bip, ethernet, mstp, Octets};
+use shared::model::findings::{Findings, Link};
+use shared::model::validators;
+use shared::octets::hex;
+use shared::random::Random;
+use shared::rust::findings::told;
+
+use crate::call::Call;
+use crate::check::Rule;
+use crate::inputs::{any, bip, ethernet, mstp};
 use crate::lent::Lent;
-use crate::list::hex;
-use crate::model::analysis::result;
-use crate::outcome::Rust;
-use crate::random::Random;
-use crate::rust_findings::told;
-use crate::tally::{Call, Tally};
+use crate::other_rule::as_house;
+use crate::outcome::{model, Rust, Told};
+use crate::tally::Tally;
+use crate::written::InMemory;
 
 // How many frames there are: under each rule, or where there is none.
 const FRAMES: usize = 530_000;
 const RULELESS: usize = 1_050_000;
-
-// How often each number is tried that names no rule.
-const UNNAMED: usize = 8;
 
 // A validator of the library, of the model and of the Rust; those without a rule ignore it.
 struct Validator {
@@ -40,10 +40,12 @@ pub fn mstp_frame(tally: &mut Tally, random: &mut Random) {
         ours: |rule, frame, result| unsafe {
             lefkanu_validate_mstp_frame(rule, frame.as_ptr(), frame.len(), result)
         },
-        model: findings::mstp,
+        model: validators::mstp,
         rust: validate_mstp_frame,
     };
-    under_rules(tally, random, &mstp::inputs(), &validator);
+    mstp::inputs().under_rules(FRAMES, random, &mut |random, rule, frame| {
+        validate(tally, random, &validator, rule, frame);
+    });
 }
 
 // Compares the IP validator.
@@ -53,7 +55,7 @@ pub fn bacnet_ip_frame(tally: &mut Tally, random: &mut Random) {
             lefkanu_validate_bacnet_ip_frame(frame.as_ptr(), frame.len(), result);
             0
         },
-        model: |_, frame| findings::ip(frame),
+        model: |_, frame| validators::ip(frame),
         rust: validate_bacnet_ip_frame,
     };
     let mut ask = |random: &mut Random, frame: &[u8]| {
@@ -70,7 +72,7 @@ pub fn ethernet_frame(tally: &mut Tally, random: &mut Random) {
             lefkanu_validate_ethernet_frame(frame.as_ptr(), frame.len(), result);
             0
         },
-        model: |_, frame| findings::ethernet(frame),
+        model: |_, frame| validators::ethernet(frame),
         rust: validate_ethernet_frame,
     };
     ethernet::inputs().each(RULELESS, random, &mut |random, frame| {
@@ -84,68 +86,54 @@ pub fn any_frame(tally: &mut Tally, random: &mut Random) {
         ours: |rule, frame, result| unsafe {
             lefkanu_validate_frame(rule, frame.as_ptr(), frame.len(), result)
         },
-        model: findings::frame,
+        model: validators::frame,
         rust: validate_frame,
     };
-    under_rules(tally, random, &any::frames(), &validator);
-}
-
-// Frames under both rules, and some under numbers that name none.
-fn under_rules(tally: &mut Tally, random: &mut Random, frames: &Octets, validator: &Validator) {
-    frames.each(FRAMES, random, &mut |random, frame| {
-        for rule in 0..2 {
-            validate(tally, random, validator, rule, frame);
-        }
+    any::frames().under_rules(FRAMES, random, &mut |random, rule, frame| {
+        validate(tally, random, &validator, rule, frame);
     });
-    for rule in 2..=255 {
-        for _ in 0..UNNAMED {
-            let frame = frames.one(random);
-            validate(tally, random, validator, rule, &frame);
-        }
-    }
 }
 
 // One frame validated.
 fn validate(tally: &mut Tally, random: &mut Random, validator: &Validator, rule: u8, frame: &[u8]) {
     let mut numbers = Lent::<usize>::new(RESULT_NUMBERS, random);
     let answer = (validator.ours)(rule, frame, numbers.array());
-    let named = Rule::of(rule);
-    let model = named.map(|rule| (validator.model)(rule, frame));
-    if let Ok(found) = &model {
-        see(tally, found);
-    }
-    let rust = match (named, &model) {
-        (Ok(rule), Ok(found)) => opinion(rule, frame, found, validator.rust),
-        _ => Rust::Silent,
-    };
+    let mut rust = Rust::Silent;
+    let found = Rule::of(rule).map(|rule| {
+        let found = (validator.model)(rule, frame);
+        see(tally, &found);
+        let (judge, told) = rust_findings(rule, frame, &found, validator.rust);
+        rust = judge(Ok(told.written()));
+        found
+    });
     tally.compare(Call {
         answer,
         lent: &mut [&mut numbers],
-        model: model.map(|found| vec![result(&found)]),
+        model: model(found),
         rust,
         input: &|| format!("rule {rule}, {}", hex(frame)),
     });
 }
 
-// What the Rust finds. An MS/TP frame under Annex G it gets as the house rule has it, and the numbers
-// in its entries of kind 4 are then the model's.
-pub fn opinion(
+// What the Rust finds, and how much of it it judges. An MS/TP frame under Annex G it gets as the house
+// rule has it, and the numbers in its entries of kind 4 are then the model's.
+pub fn rust_findings(
     rule: Rule,
     frame: &[u8],
     model: &Findings,
     validate: fn(&[u8]) -> ValidationResult,
-) -> Rust {
-    let checked = model.link == findings::Link::Mstp && frame.len() >= 8;
+) -> (fn(Told) -> Rust, Findings) {
+    let checked = model.link == Link::Mstp && frame.len() >= 8;
     if rule == Rule::House || !checked {
-        return Rust::Whole(Ok(vec![result(&told(validate(frame)))]));
+        return (Rust::Whole, told(&validate(frame)));
     }
-    let mut found = told(validate(&as_house(frame)));
+    let mut found = told(&validate(&as_house(frame)));
     let checks = model.errors.iter().filter(|error| error[0] == 4);
     let mine = found.errors.iter_mut().filter(|error| error[0] == 4);
     for (error, check) in mine.zip(checks) {
         *error = *check;
     }
-    Rust::ButChecks(Ok(vec![result(&found)]))
+    (Rust::ButChecks, found)
 }
 
 // Counts what was found: kinds, with the reasons that they have, links, and how many errors.

@@ -1,17 +1,18 @@
 // The cases of the analysis. The samples are analysed too.
 
-use crate::analysis_list::{analysis, of_size, RULES};
-use crate::bip::message;
-use crate::check::Rule;
-use crate::ethernet::written as ethernet_written;
+use shared::model::bvlc::message;
+use shared::model::ethernet::written as ethernet_written;
+use shared::model::mstp::written;
+use shared::model::patterns::found;
+use shared::octets::{of_size, then, with};
+use shared::random::Random;
+
+use crate::analysis_list::analysis;
+use crate::check::{Rule, RULES};
 use crate::ethernet_list::STATIONS;
 use crate::list::List;
-use crate::mstp::written;
 use crate::mstp_list::{DATA, REQUEST, TOKEN};
-use crate::octets::{then, with};
-use crate::patterns::found;
 use crate::patterns_cases::together;
-use crate::random::Random;
 use crate::statistics_cases::{repeats, LONG};
 
 // Data with two texts and zeros at the end.

@@ -31,18 +31,15 @@
 //     LIST         the lent list, which was a5a5a5a5, and 4 numbers behind it: all of these, or the
 //                  first 60, eight digits each
 
-use std::path::Path;
-
-use crate::check::{try_examples, Rule};
-use crate::list::{frames, hex, List, MOST};
-use crate::random::Random;
-use crate::{
-    analysis, analysis_cases, ethernet_validations, findings, frame_validations, ip_validations,
-    mstp_validations, patterns, patterns_cases, statistics, statistics_cases,
+use bacnet::datalink::validation::{
+    validate_bacnet_ip_frame, validate_ethernet_frame, validate_frame, validate_mstp_frame,
 };
+use shared::model::validators;
+use shared::octets::hex;
 
-// Both rules.
-pub const RULES: [Rule; 2] = [Rule::House, Rule::AnnexG];
+use crate::analysis_answers;
+use crate::check::Rule;
+use crate::list::{List, MOST};
 
 // Counts of octets around the limits of all validators.
 pub const FEW: [usize; 15] = [3, 4, 5, 7, 8, 9, 13, 14, 15, 16, 17, 18, 59, 60, 61];
@@ -51,92 +48,53 @@ pub const MANY: [usize; 12] = [
 ];
 pub const VERY_MANY: [usize; 3] = [65_534, 65_535, 65_536];
 
-// Adds the whole list, the octets in the folder of samples among it.
-pub fn cases(list: &mut List, samples: &Path) {
-    try_examples();
-    findings::try_example();
-    patterns::try_examples();
-    let mut random = Random::new();
-    for name in [
-        "mstp-frames.txt",
-        "bvlc-messages.txt",
-        "ethernet-frames.txt",
-    ] {
-        for octets in frames(&samples.join(name)) {
-            sample(list, &octets);
-        }
-    }
-    for rule in RULES {
-        mstp_validations::cases(list, rule, &mut random);
-    }
-    ip_validations::cases(list, &mut random);
-    ethernet_validations::cases(list, &mut random);
-    frame_validations::cases(list, &mut random);
-    statistics_cases::cases(list, &mut random);
-    patterns_cases::cases(list, &mut random);
-    analysis_cases::cases(list, &mut random);
-}
-
-// Adds all that is asked of a sample.
-fn sample(list: &mut List, octets: &[u8]) {
-    for rule in RULES {
-        mstp(list, rule, octets);
-        frame(list, rule, octets);
-        analysis(list, rule, octets, 16);
-    }
-    ip(list, octets);
-    ethernet(list, octets);
-    statistics(list, octets);
-    patterns(list, octets, 16);
-}
-
 // Adds the MS/TP validator's answer to some octets.
 pub fn mstp(list: &mut List, rule: Rule, octets: &[u8]) {
-    let answer = findings::mstp_answer(rule, octets);
+    let (findings, rust) = (validators::mstp(rule, octets), validate_mstp_frame(octets));
+    let answer = analysis_answers::findings(rule, octets, &findings, &rust);
     add(list, ['M', rule.letter()], octets, 0, &answer);
 }
 
 // Adds the IP validator's answer to some octets.
 pub fn ip(list: &mut List, octets: &[u8]) {
-    let answer = findings::ip_answer(octets);
+    let (findings, rust) = (validators::ip(octets), validate_bacnet_ip_frame(octets));
+    let answer = analysis_answers::findings(Rule::House, octets, &findings, &rust);
     add(list, ['I', '-'], octets, 0, &answer);
 }
 
 // Adds the Ethernet validator's answer to some octets.
 pub fn ethernet(list: &mut List, octets: &[u8]) {
-    let answer = findings::ethernet_answer(octets);
+    let (findings, rust) = (
+        validators::ethernet(octets),
+        validate_ethernet_frame(octets),
+    );
+    let answer = analysis_answers::findings(Rule::House, octets, &findings, &rust);
     add(list, ['E', '-'], octets, 0, &answer);
 }
 
 // Adds the answer of the validator for all kinds to some octets.
 pub fn frame(list: &mut List, rule: Rule, octets: &[u8]) {
-    let answer = findings::frame_answer(rule, octets);
+    let (findings, rust) = (validators::frame(rule, octets), validate_frame(octets));
+    let answer = analysis_answers::findings(rule, octets, &findings, &rust);
     add(list, ['F', rule.letter()], octets, 0, &answer);
 }
 
 // Adds the statistics of some octets.
 pub fn statistics(list: &mut List, octets: &[u8]) {
-    let answer = statistics::answer(octets);
+    let answer = analysis_answers::statistics(octets);
     add(list, ['S', '-'], octets, 0, &answer);
 }
 
 // Adds the patterns in some octets, with a lent list of a size.
 pub fn patterns(list: &mut List, octets: &[u8], size: usize) {
-    let answer = patterns::answer(octets, size);
+    let answer = analysis_answers::patterns(octets, size);
     add(list, ['P', '-'], octets, size, &answer);
 }
 
 // Adds the analysis of some octets, with a lent list of a size.
 pub fn analysis(list: &mut List, rule: Rule, octets: &[u8], size: usize) {
-    let answer = analysis::answer(rule, octets, size);
+    let answer = analysis_answers::analysis(rule, octets, size);
     add(list, ['A', rule.letter()], octets, size, &answer);
-}
-
-// The octets with zeros behind them, so many that there are `count` in all, or cut to so many.
-pub fn of_size(octets: &[u8], count: usize) -> Vec<u8> {
-    let mut resized = octets.to_vec();
-    resized.resize(count, 0x00);
-    resized
 }
 
 // Adds a case with its answer.

@@ -17,30 +17,39 @@
 // space too, at the line's end. X is `I`, the Rust's InvalidFrame, or `N` where it has no answer, as
 // to question 16. nn is the first of document 01's questions that fails.
 
-use std::path::Path;
+use shared::model::bvlc::{self, Carried, Header};
+use shared::octets::hex;
+use shared::rust;
 
-use crate::list::{frames, List};
-use crate::random::Random;
-use crate::{bip, bip_readings, bip_writings};
+use crate::answer::{compare, output, refusal};
+use crate::list::{front, List};
 
-// Adds the whole part, the messages in the folder of samples among it.
-pub fn cases(list: &mut List, samples: &Path) {
-    bip::try_examples();
-    for octets in frames(&samples.join("bvlc-messages.txt")) {
-        both(list, &octets);
-    }
-    bip_readings::cases(list, &mut Random::new());
-    bip_writings::cases(list);
-}
+// Octets that stand behind a header.
+pub const BEHIND: [u8; 8] = [0x01, 0x22, 0x30, 0x43, 0x54, 0x65, 0x76, 0x87];
 
-// Adds the reading of the header in front of some octets.
+// Adds the reading of the header in front of some octets. Panics where the Rust reads another.
 pub fn header(list: &mut List, octets: &[u8]) {
-    list.add(['B', '-'], octets, 0, &bip::header(octets));
+    let answer = bvlc::read(octets);
+    compare("reading", octets, rust::bvlc::read(octets), &answer);
+    let text = match answer {
+        Err(question) => refusal(question),
+        Ok(header) => format!("F {}", hex(&header.octets())),
+    };
+    list.add(['B', '-'], octets, 0, &text);
 }
 
-// Adds the NPDU of some octets.
+// Adds the NPDU of some octets. Panics where the Rust finds something else.
 pub fn npdu(list: &mut List, octets: &[u8]) {
-    list.add(['N', '-'], octets, 0, &bip::npdu(octets));
+    let answer = bvlc::process(octets);
+    let rust = rust::bvlc::Link::new().process(octets);
+    compare("processing", octets, rust, &answer);
+    let text = match answer {
+        Err(question) => format!("{} ", refusal(question)),
+        Ok(Carried::Npdu(npdu)) => format!("N {}", front(npdu)),
+        Ok(Carried::TimeToLive(seconds)) => format!("T {seconds:04x} "),
+        Ok(Carried::NoNpdu) => "O ".to_string(),
+    };
+    list.add(['N', '-'], octets, 0, &text);
 }
 
 // Adds both.
@@ -49,7 +58,20 @@ pub fn both(list: &mut List, octets: &[u8]) {
     npdu(list, octets);
 }
 
-// Adds the writing of function and length into an output of a size.
-pub fn writing(list: &mut List, three: [u8; 3], size: usize) {
-    list.add(['C', '-'], &three, size, &bip::writing(three, size));
+// Adds the writing of a header into an output of a size. Panics where the Rust writes another.
+pub fn writing(list: &mut List, header: &Header, size: usize) {
+    let [_, three @ ..] = header.octets();
+    let rust = rust::bvlc::write(header).expect("a function of 00 to 0C");
+    compare(
+        "writing",
+        &three,
+        Ok(rust),
+        &bvlc::write(header, usize::MAX),
+    );
+    list.add(
+        ['C', '-'],
+        &three,
+        size,
+        &output(bvlc::write(header, size), size),
+    );
 }

@@ -1,16 +1,14 @@
 // The cases of reading BVLC headers and messages.
 
-use crate::bip::{message, LAST};
-use crate::bip_list::{both, header, npdu};
-use crate::list::List;
-use crate::octets::{choices, then, with, with_bits, with_each};
-use crate::random::Random;
+use shared::model::bvlc::{message, LAST_FUNCTION};
+use shared::octets::{choices, then, with, with_bits, with_each};
+use shared::random::Random;
 
-// Octets that stand behind a header.
-const BEHIND: [u8; 8] = [0x01, 0x22, 0x30, 0x43, 0x54, 0x65, 0x76, 0x87];
+use crate::bip_list::{both, header, npdu, BEHIND};
+use crate::list::List;
 
 // Three functions with an NPDU, one with a time to live, two with neither, and a number of none.
-const SOME: [u8; 7] = [0x0A, 0x0B, 0x04, 0x05, 0x09, 0x00, LAST + 1];
+const SOME: [u8; 7] = [0x0A, 0x0B, 0x04, 0x05, 0x09, 0x00, LAST_FUNCTION + 1];
 
 // Adds them all.
 pub fn cases(list: &mut List, random: &mut Random) {
@@ -136,9 +134,8 @@ fn faults_together(list: &mut List) {
 // Random good messages, as they are and with one to three changes.
 fn random_messages(list: &mut List, random: &mut Random) {
     for _ in 0..100 {
-        let function = random.octet() % (LAST + 1);
-        let count = random.below(25);
-        let mut octets = message(function, &random.octets(count));
+        let function = random.octet() % (LAST_FUNCTION + 1);
+        let mut octets = message(function, &random.fewer(25));
         npdu(list, &octets);
         random.damage(&mut octets);
         both(list, &octets);

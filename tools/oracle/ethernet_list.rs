@@ -18,28 +18,18 @@
 // space too, at the line's end. X is `I`, the Rust's InvalidFrame, or `N` where it has no answer, as
 // to question 25. nn is the first of document 01's questions that fails.
 
-use std::path::Path;
+use shared::model::ethernet::{self, Addresses, Frame};
+use shared::octets::hex;
+use shared::rust;
 
-use crate::ethernet::Addresses;
-use crate::list::{frames, List};
-use crate::random::Random;
-use crate::{ethernet, ethernet_readings, ethernet_writings};
+use crate::answer::{compare, output, refusal};
+use crate::list::{front, List};
 
 // Two stations.
 pub const STATIONS: Addresses = [
     [0x00, 0x11, 0x22, 0x33, 0x44, 0x55],
     [0x66, 0x77, 0x88, 0x99, 0xAA, 0xBB],
 ];
-
-// Adds the whole part, the frames in the folder of samples among it.
-pub fn cases(list: &mut List, samples: &Path) {
-    for octets in frames(&samples.join("ethernet-frames.txt")) {
-        both(list, &octets);
-    }
-    let mut random = Random::new();
-    ethernet_readings::cases(list, &mut random);
-    ethernet_writings::cases(list, &mut random);
-}
 
 // Stations, the broadcast address and zeros, each as destination with each as source.
 pub fn pairs() -> Vec<Addresses> {
@@ -49,14 +39,40 @@ pub fn pairs() -> Vec<Addresses> {
     all.map(with_all).concat()
 }
 
-// Adds the reading of some octets.
+// Adds the reading of some octets. Panics where the Rust reads something else.
 pub fn reading(list: &mut List, octets: &[u8]) {
-    list.add(['E', '-'], octets, 0, &ethernet::reading(octets));
+    let answer = ethernet::read(octets);
+    compare("reading", octets, rust::ethernet::read(octets), &answer);
+    let text = match answer {
+        Ok(frame) => format!("F {}", text(&frame)),
+        Err(question) => {
+            let none = Frame {
+                addresses: [[0; 6]; 2],
+                payload: &[],
+            };
+            format!("{} {}", refusal(question), text(&none))
+        }
+    };
+    list.add(['E', '-'], octets, 0, &text);
 }
 
-// Adds the validator's answer to some octets.
+// A frame's three tokens.
+fn text(frame: &Frame) -> String {
+    let [destination, source] = frame.addresses.map(|address| hex(&address));
+    format!("{destination} {source} {}", front(frame.payload))
+}
+
+// Adds the validator's answer to some octets. Panics where the Rust has another.
 pub fn validating(list: &mut List, octets: &[u8]) {
-    list.add(['V', '-'], octets, 0, &ethernet::validating(octets));
+    let answer = ethernet::validate(octets);
+    compare(
+        "validating",
+        octets,
+        rust::ethernet::validate(octets),
+        &answer,
+    );
+    let text = answer.map_or_else(refusal, |()| "F".to_string());
+    list.add(['V', '-'], octets, 0, &text);
 }
 
 // Adds both.
@@ -65,9 +81,16 @@ pub fn both(list: &mut List, octets: &[u8]) {
     validating(list, octets);
 }
 
-// Adds the writing of addresses and payload into an output of a size.
+// Adds the writing of addresses and payload into an output of a size. Panics where the Rust writes
+// other octets.
 pub fn writing(list: &mut List, addresses: Addresses, payload: &[u8], size: usize) {
+    let write = |room| ethernet::write(addresses, payload, room);
+    compare(
+        "writing",
+        payload,
+        rust::ethernet::write(addresses, payload),
+        &write(usize::MAX),
+    );
     let octets = [&addresses.concat(), payload].concat();
-    let answer = ethernet::writing(addresses, payload, size);
-    list.add(['G', '-'], &octets, size, &answer);
+    list.add(['G', '-'], &octets, size, &output(write(size), size));
 }

@@ -1,13 +1,11 @@
 // The cases of reading and validating Ethernet frames.
 
-use crate::ethernet::written;
+use shared::model::ethernet::{unpadded, written, BEFORE};
+use shared::octets::{choices, with, with_bits, with_each};
+use shared::random::Random;
+
 use crate::ethernet_list::{both, pairs, reading, validating, STATIONS};
 use crate::list::List;
-use crate::octets::{choices, with, with_bits, with_each};
-use crate::random::Random;
-
-// How many octets stand before the payload.
-const BEFORE: usize = 17;
 
 // Adds them all.
 pub fn cases(list: &mut List, random: &mut Random) {
@@ -21,11 +19,9 @@ pub fn cases(list: &mut List, random: &mut Random) {
     random_frames(list, random);
 }
 
-// A good frame of a size, also of one below 60: there it has no padding.
+// A good frame of a size, also of one below 60, without padding.
 fn good(random: &mut Random, size: usize) -> Vec<u8> {
-    let mut octets = written(STATIONS, &random.octets(size - BEFORE));
-    octets.truncate(size);
-    octets
+    unpadded(STATIONS, &random.octets(size - BEFORE))
 }
 
 // Every front of a good frame of 61 octets.
@@ -39,11 +35,11 @@ fn fronts(list: &mut List, random: &mut Random) {
 // A frame without payload, with each octet of type and LLC changed: for reading to every value, for
 // the validator by each bit, to 00 and to FF.
 fn single_changes(list: &mut List) {
-    let good = &written(STATIONS, &[])[..BEFORE];
-    for changed in with_each(good, 12..BEFORE) {
+    let good = unpadded(STATIONS, &[]);
+    for changed in with_each(&good, 12..BEFORE) {
         reading(list, &changed);
     }
-    for changed in with_bits(good, 12..BEFORE) {
+    for changed in with_bits(&good, 12..BEFORE) {
         validating(list, &changed);
     }
 }

@@ -1,15 +1,13 @@
 // The cases of validating Ethernet frames by validation.rs.
 
-use crate::analysis_list::{ethernet, frame, of_size, FEW, MANY, RULES, VERY_MANY};
-use crate::check::Rule;
-use crate::ethernet::written;
+use shared::model::ethernet::{unpadded, written, BEFORE};
+use shared::octets::{choices, of_size, with, with_bits};
+use shared::random::Random;
+
+use crate::analysis_list::{ethernet, frame, FEW, MANY, VERY_MANY};
+use crate::check::{Rule, RULES};
 use crate::ethernet_list::{pairs, STATIONS};
 use crate::list::List;
-use crate::octets::{choices, with, with_bits};
-use crate::random::Random;
-
-// How many octets stand before the payload.
-const BEFORE: usize = 17;
 
 // An address of many stations.
 const MULTICAST: [u8; 6] = [0x01, 0x00, 0x5E, 0x00, 0x00, 0x01];
@@ -46,8 +44,7 @@ fn fronts(list: &mut List, random: &mut Random) {
 
 // A frame without payload, with each octet of type and LLC changed by each bit, to 00 and to FF.
 fn single_changes(list: &mut List) {
-    let good = &written(STATIONS, &[])[..BEFORE];
-    for changed in with_bits(good, 12..BEFORE) {
+    for changed in with_bits(&unpadded(STATIONS, &[]), 12..BEFORE) {
         ethernet(list, &changed);
     }
 }
@@ -57,8 +54,7 @@ fn single_changes(list: &mut List) {
 fn addresses(list: &mut List) {
     let [one, other] = STATIONS;
     for destination in [one, [0xFF; 6]] {
-        let good = &written([destination, other], &[])[..BEFORE];
-        for changed in with_bits(good, 0..6) {
+        for changed in with_bits(&unpadded([destination, other], &[]), 0..6) {
             ethernet(list, &changed);
         }
     }
@@ -115,9 +111,7 @@ fn sizes(list: &mut List) {
 // Random frames, as they are and with one to three changes before the payload.
 fn random_frames(list: &mut List, random: &mut Random) {
     for _ in 0..40 {
-        let size = BEFORE + random.below(21);
-        let mut octets = written(STATIONS, &random.octets(size - BEFORE));
-        octets.truncate(size);
+        let mut octets = unpadded(STATIONS, &random.fewer(21));
         octets[..12].copy_from_slice(&random.octets(12));
         both(list, &octets);
         random.damage(&mut octets[..BEFORE]);

@@ -1,9 +1,10 @@
 // The cases of writing Ethernet frames.
 
-use crate::ethernet::written;
+use shared::model::ethernet::written;
+use shared::random::Random;
+
 use crate::ethernet_list::{pairs, writing, STATIONS};
 use crate::list::List;
-use crate::random::Random;
 
 // Adds them all.
 pub fn cases(list: &mut List, random: &mut Random) {

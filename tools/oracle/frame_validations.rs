@@ -1,10 +1,11 @@
 // The cases of the choice between the validators. More of it is among the cases of each kind.
 
-use crate::analysis_list::{frame, of_size, FEW, MANY, RULES, VERY_MANY};
-use crate::check::Rule;
+use shared::octets::{of_size, with_bits};
+use shared::random::Random;
+
+use crate::analysis_list::{frame, FEW, MANY, VERY_MANY};
+use crate::check::{Rule, RULES};
 use crate::list::List;
-use crate::octets::with_bits;
-use crate::random::Random;
 
 // What octets 12 and 13 of an Ethernet frame have.
 const TYPE: [u8; 2] = [0x82, 0xDC];
@@ -70,7 +71,6 @@ fn undetermined(list: &mut List, random: &mut Random) {
         frame(list, Rule::House, &vec![0x00; size]);
     }
     for _ in 0..40 {
-        let count = random.below(31);
-        frame(list, Rule::AnnexG, &random.octets(count));
+        frame(list, Rule::AnnexG, &random.fewer(31));
     }
 }

@@ -1,14 +1,13 @@
 // The cases of validating IP frames.
 
-use crate::analysis_list::{frame, ip, of_size, FEW, MANY, RULES, VERY_MANY};
-use crate::bip::message;
-use crate::check::Rule;
-use crate::list::List;
-use crate::octets::{choices, with, with_bits};
-use crate::random::Random;
+use shared::model::bvlc::message;
+use shared::octets::{choices, of_size, with, with_bits};
+use shared::random::Random;
 
-// Octets that stand behind a header.
-const BEHIND: [u8; 8] = [0x01, 0x22, 0x30, 0x43, 0x54, 0x65, 0x76, 0x87];
+use crate::analysis_list::{frame, ip, FEW, MANY, VERY_MANY};
+use crate::bip_list::BEHIND;
+use crate::check::{Rule, RULES};
+use crate::list::List;
 
 // Functions without a warning, with each one, the last that is let pass, and two that are none.
 const SOME: [u8; 8] = [0x00, 0x0A, 0x0C, 0x01, 0x08, 0x0D, 0x0E, 0xFF];
@@ -104,8 +103,7 @@ fn sizes(list: &mut List) {
 fn random_messages(list: &mut List, random: &mut Random) {
     for _ in 0..50 {
         let function = random.octet() % 0x10;
-        let count = random.below(25);
-        let mut octets = message(function, &random.octets(count));
+        let mut octets = message(function, &random.fewer(25));
         both(list, &octets);
         random.damage(&mut octets);
         both(list, &octets);

@@ -1,8 +1,9 @@
 // A list: its cases and answers, and how octets stand in them.
 
 use std::collections::HashSet;
-use std::fmt::Write;
 use std::path::Path;
+
+use shared::octets::hex;
 
 #[derive(Default)]
 pub struct List {
@@ -33,15 +34,6 @@ impl List {
 
 // The most octets that a case tells, or that an answer shows of one thing.
 pub const MOST: usize = 2000;
-
-// The octets, two digits each.
-pub fn hex(octets: &[u8]) -> String {
-    let mut text = String::new();
-    for octet in octets {
-        write!(text, "{octet:02x}").unwrap();
-    }
-    text
-}
 
 // The octets as an answer has them: all, or the first of very many.
 pub fn front(octets: &[u8]) -> String {

@@ -1,9 +1,10 @@
 // The cases of MS/TP check octets.
 
+use shared::random::Random;
+
 use crate::check::Rule;
 use crate::list::List;
 use crate::mstp_list::{data, header, DATA, HEADER};
-use crate::random::Random;
 
 // Adds them all.
 pub fn cases(list: &mut List, rule: Rule, random: &mut Random) {

@@ -17,12 +17,14 @@
 // house or `g` Annex G. X is the Rust's error, `I` InvalidFrame or `C` CrcError; `N` where it has no
 // answer, as to question 8. nn is the first of document 01's questions that fails.
 
-use std::path::Path;
+use shared::model::checks::Checks;
+use shared::model::mstp::{self, Frame};
+use shared::octets::hex;
+use shared::rust;
 
-use crate::check::{try_examples, Rule};
-use crate::list::{frames, List};
-use crate::random::Random;
-use crate::{mstp, mstp_checks, mstp_readings, mstp_writings};
+use crate::answer::{compare, output, refusal};
+use crate::check::Rule;
+use crate::list::{front, List};
 
 // Document 01's trial octets, header (type, destination, source, length) and data.
 pub const HEADER: [u8; 5] = [0x00, 0x10, 0x05, 0x00, 0x00];
@@ -31,21 +33,6 @@ pub const DATA: [u8; 3] = [0x01, 0x22, 0x30];
 // Type, destination and source of that token, and of a data frame between the same stations.
 pub const TOKEN: [u8; 3] = [0x00, 0x10, 0x05];
 pub const REQUEST: [u8; 3] = [0x05, 0x10, 0x05];
-
-// Adds the whole part, the frames in the folder of samples among it.
-pub fn cases(list: &mut List, samples: &Path) {
-    try_examples();
-    let samples = frames(&samples.join("mstp-frames.txt"));
-    let mut random = Random::new();
-    for rule in [Rule::House, Rule::AnnexG] {
-        mstp_checks::cases(list, rule, &mut random);
-        mstp_readings::cases(list, rule, &mut random);
-        for octets in &samples {
-            reading(list, rule, octets);
-        }
-        mstp_writings::cases(list, rule, &mut random);
-    }
-}
 
 // Adds the header check of five octets.
 pub fn header(list: &mut List, rule: Rule, five: [u8; 5]) {
@@ -60,15 +47,48 @@ pub fn data(list: &mut List, rule: Rule, octets: &[u8]) {
     list.add(['D', rule.letter()], octets, 0, &answer);
 }
 
-// Adds the reading of some octets.
+// Adds the reading of some octets. Panics where the Rust, which has the house rule, reads another.
 pub fn reading(list: &mut List, rule: Rule, octets: &[u8]) {
-    let answer = mstp::reading(rule, octets);
-    list.add(['R', rule.letter()], octets, 0, &answer);
+    let answer = mstp::read(rule, octets);
+    if rule == Rule::House {
+        compare("reading", octets, rust::mstp::read(octets), &answer);
+    }
+    let text = match answer {
+        Err(question) => format!("{} ", refusal(question)),
+        Ok(frame) => format!("F {}", text(&frame)),
+    };
+    list.add(['R', rule.letter()], octets, 0, &text);
 }
 
-// Adds the writing of type, destination, source and data into an output of a size.
+// A frame's three tokens.
+fn text(frame: &Frame) -> String {
+    let check = match frame.data_check {
+        Some(check) => format!("{check:04x}"),
+        None => "none".to_string(),
+    };
+    let Frame {
+        three,
+        data,
+        header_check,
+        ..
+    } = frame;
+    let (three, length, data) = (hex(three), data.len(), front(data));
+    format!("{three}{length:04x}{header_check:02x} {check} {data}")
+}
+
+// Adds the writing of type, destination, source and data into an output of a size. Panics where the
+// Rust writes other octets.
 pub fn writing(list: &mut List, rule: Rule, three: [u8; 3], data: &[u8], size: usize) {
+    let write = |room| mstp::write(rule, three, data, room);
+    if rule == Rule::House {
+        let rust = rust::mstp::write(three, data).expect("a type of 0 to 7");
+        compare("writing", data, rust, &write(usize::MAX));
+    }
     let octets = [&three, data].concat();
-    let answer = mstp::writing(rule, three, data, size);
-    list.add(['W', rule.letter()], &octets, size, &answer);
+    list.add(
+        ['W', rule.letter()],
+        &octets,
+        size,
+        &output(write(size), size),
+    );
 }

@@ -1,11 +1,12 @@
 // The cases of reading MS/TP frames.
 
+use shared::model::mstp::written;
+use shared::octets::{choices, then, with, with_bits, with_each};
+use shared::random::Random;
+
 use crate::check::Rule;
 use crate::list::List;
-use crate::mstp::written;
 use crate::mstp_list::{reading, DATA, REQUEST, TOKEN};
-use crate::octets::{choices, then, with, with_bits, with_each};
-use crate::random::Random;
 
 // Adds them all.
 pub fn cases(list: &mut List, rule: Rule, random: &mut Random) {
@@ -131,8 +132,7 @@ fn other_rule(list: &mut List, rule: Rule) {
 fn random_damage(list: &mut List, rule: Rule, random: &mut Random) {
     for _ in 0..200 {
         let three = [random.octet() % 8, random.octet(), random.octet()];
-        let length = random.below(41);
-        let mut octets = written(rule, three, &random.octets(length));
+        let mut octets = written(rule, three, &random.fewer(41));
         random.damage(&mut octets);
         reading(list, rule, &octets);
     }

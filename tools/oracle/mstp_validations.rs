@@ -1,12 +1,13 @@
 // The cases of validating MS/TP frames.
 
-use crate::analysis_list::{frame, mstp, of_size, FEW, MANY, VERY_MANY};
+use shared::model::mstp::written;
+use shared::octets::{choices, of_size, then, with, with_bits};
+use shared::random::Random;
+
+use crate::analysis_list::{frame, mstp, FEW, MANY, VERY_MANY};
 use crate::check::Rule;
 use crate::list::List;
-use crate::mstp::written;
 use crate::mstp_list::{DATA, REQUEST, TOKEN};
-use crate::octets::{choices, then, with, with_bits};
-use crate::random::Random;
 
 // An address of a slave.
 const SLAVE: u8 = 200;
@@ -212,14 +213,12 @@ fn other_rule(list: &mut List, rule: Rule) {
 fn random_frames(list: &mut List, rule: Rule, random: &mut Random) {
     for _ in 0..50 {
         let three = [random.octet(), random.octet(), random.octet()];
-        let length = random.below(21);
-        let mut octets = written(rule, three, &random.octets(length));
+        let mut octets = written(rule, three, &random.fewer(21));
         frame(list, rule, &octets);
         random.damage(&mut octets);
         mstp(list, rule, &octets);
     }
     for _ in 0..40 {
-        let count = random.below(21);
-        frame(list, rule, &then(&[0x55, 0xFF], &random.octets(count)));
+        frame(list, rule, &then(&[0x55, 0xFF], &random.fewer(21)));
     }
 }

@@ -1,10 +1,11 @@
 // The cases of writing MS/TP frames.
 
+use shared::model::mstp::size;
+use shared::random::Random;
+
 use crate::check::Rule;
 use crate::list::List;
-use crate::mstp::size;
 use crate::mstp_list::{writing, DATA, REQUEST, TOKEN};
-use crate::random::Random;
 
 // Adds them all.
 pub fn cases(list: &mut List, rule: Rule, random: &mut Random) {

@@ -1,10 +1,11 @@
 // The cases of patterns.
 
-use crate::analysis_list::{of_size, patterns};
+use shared::model::patterns::found;
+use shared::octets::{of_size, then, with};
+use shared::random::Random;
+
+use crate::analysis_list::patterns;
 use crate::list::List;
-use crate::octets::{then, with};
-use crate::patterns::found;
-use crate::random::Random;
 use crate::statistics_cases::{repeats, LONG};
 
 // The octets in front that are a sequence.

@@ -1,9 +1,10 @@
 // The cases of statistics, and octets with long repeats for the layers above.
 
-use crate::analysis_list::{of_size, statistics};
+use shared::octets::{of_size, then};
+use shared::random::Random;
+
+use crate::analysis_list::statistics;
 use crate::list::List;
-use crate::octets::then;
-use crate::random::Random;
 
 // Alphabets of few octets, with the borders of text and of high octets.
 const ALPHABETS: [&[u8]; 6] = [
@@ -97,8 +98,7 @@ fn random_octets(list: &mut List, random: &mut Random) {
         statistics(list, &repeats(random));
     }
     for _ in 0..20 {
-        let count = random.below(41);
-        statistics(list, &random.octets(count));
+        statistics(list, &random.fewer(41));
     }
 }
 

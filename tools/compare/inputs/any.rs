@@ -1,7 +1,8 @@
 // Octets of all kinds: frames of each link, and texts, zeros, paddings and sequences.
 
+use shared::random::Random;
+
 use crate::inputs::{bip, ethernet, mstp, one_in, one_of, Ask, Octets};
-use crate::random::Random;
 
 // What octets are taken from, so that some repeat.
 const FEW: [&[u8]; 4] = [

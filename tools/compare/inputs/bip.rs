@@ -1,8 +1,10 @@
 // BVLC messages, good and with faults.
 
+use shared::model::bvlc::message;
+use shared::octets::then;
+use shared::random::Random;
+
 use crate::inputs::{one_in, one_of, Ask, Octets};
-use crate::octets::then;
-use crate::random::Random;
 
 // The functions whose sizes matter.
 const CARRYING: [u8; 4] = [0x04, 0x05, 0x0A, 0x0B];
@@ -18,13 +20,6 @@ pub fn inputs() -> Octets {
         message(0x0D, &[]),
     ];
     Octets { fixed, good, near }
-}
-
-// A message with the right length: any function, and the octets behind the header.
-pub fn message(function: u8, behind: &[u8]) -> Vec<u8> {
-    let length = u16::try_from(4 + behind.len()).expect("a length of two octets");
-    let [high, low] = length.to_be_bytes();
-    then(&[0x81, function, high, low], behind)
 }
 
 // How many octets stand behind the header.

@@ -1,8 +1,9 @@
 // Ethernet frames, good and with faults.
 
+use shared::model::ethernet::{written, Addresses, FIXED};
+use shared::random::Random;
+
 use crate::inputs::{one_in, one_of, Octets};
-use crate::model::ethernet::{written, Addresses, FIXED};
-use crate::random::Random;
 
 // Payload sizes at the borders: with and without padding, and around the most.
 const BORDERS: [usize; 11] = [0, 1, 41, 42, 43, 44, 1495, 1496, 1497, 1498, 1499];

@@ -1,8 +1,9 @@
 // Logs: records one behind another, and what is left of them.
 
+use shared::model::log::record;
+use shared::random::Random;
+
 use crate::inputs::{one_in, one_of};
-use crate::model::log::record;
-use crate::random::Random;
 
 // Lengths of records at the borders.
 pub const BORDERS: [usize; 12] = [0, 1, 2, 3, 255, 256, 257, 1512, 1513, 1514, 1515, 1516];

@@ -2,13 +2,14 @@
 
 pub mod any;
 pub mod bip;
+pub mod damaged;
 pub mod ethernet;
 pub mod logs;
 pub mod mstp;
 pub mod runs;
 
-use crate::octets::{then, with, with_each};
-use crate::random::Random;
+use shared::octets::{then, with, with_each};
+use shared::random::Random;
 
 // Counts of octets around document 01's limits.
 const LENGTHS: [usize; 31] = [
@@ -21,6 +22,9 @@ pub const LONGEST: [usize; 4] = [65_534, 65_535, 65_536, 65_537];
 const OF_EACH: usize = 200;
 const OF_LONGEST: usize = 12;
 
+// How often each number is tried that names no rule.
+const UNNAMED: usize = 8;
+
 // What two octets at once are set to; the last two turn a bit.
 const VALUES: [u8; 5] = [0x00, 0x55, 0x81, 0xFE, 0xFF];
 const TURNED: [u8; 2] = [0x01, 0x80];
@@ -30,6 +34,9 @@ pub type Make = fn(&mut Random) -> Vec<u8>;
 
 // Takes an input.
 pub type Ask<'a> = &'a mut dyn FnMut(&mut Random, &[u8]);
+
+// Takes an input and a number that names a rule or none.
+pub type AskUnder<'a> = &'a mut dyn FnMut(&mut Random, u8, &[u8]);
 
 // What inputs of one kind are made from.
 pub struct Octets {
@@ -61,16 +68,31 @@ impl Octets {
         }
     }
 
+    // Asks so many inputs under both rules, and some under each number that names none.
+    pub fn under_rules(&self, count: usize, random: &mut Random, ask: AskUnder) {
+        self.each(count, random, &mut |random, octets| {
+            both(random, octets, ask)
+        });
+        self.unnamed(random, ask);
+    }
+
+    // Asks some inputs under each number that names no rule.
+    pub fn unnamed(&self, random: &mut Random, ask: AskUnder) {
+        for rule in 2..=255 {
+            for _ in 0..UNNAMED {
+                let octets = self.one(random);
+                ask(random, rule, &octets);
+            }
+        }
+    }
+
     // A random one: good, damaged, with faults, or octets that are good only by chance.
     pub fn one(&self, random: &mut Random) -> Vec<u8> {
         match random.below(8) {
             0 | 1 => (self.good)(random),
             2..=4 => self.damaged(random),
             5 | 6 => (self.near)(random),
-            _ => {
-                let count = random.below(80);
-                random.octets(count)
-            }
+            _ => random.fewer(80),
         }
     }
 
@@ -107,6 +129,13 @@ impl Octets {
                 ask(random, &octets);
             }
         }
+    }
+}
+
+// Asks about some octets under both rules.
+pub fn both(random: &mut Random, octets: &[u8], ask: AskUnder) {
+    for rule in 0..2 {
+        ask(random, rule, octets);
     }
 }
 

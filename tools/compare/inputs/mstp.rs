@@ -1,9 +1,11 @@
 // MS/TP frames, good and with faults.
 
+use shared::model::checks::Checks;
+use shared::model::mstp::written;
+use shared::random::Random;
+
 use crate::check::Rule;
 use crate::inputs::{one_in, one_of, Octets};
-use crate::model::mstp::written;
-use crate::random::Random;
 
 // Data lengths around the limits, and beyond them.
 const LENGTHS: [usize; 13] = [

@@ -1,0 +1,45 @@
+// What the Rust counts, and the patterns that it finds.
+
+use bacnet::datalink::validation::{FrameStatistics, Pattern};
+
+use crate::model::patterns::Entry;
+use crate::model::statistics::Statistics;
+use crate::octets::hex;
+
+// The Rust's statistics.
+pub fn statistics(counted: &FrameStatistics) -> Statistics {
+    let counts = counted.byte_distribution.map(|count| count as usize);
+    Statistics {
+        counts: counts.to_vec(),
+        zeros: counted.null_bytes,
+        high: counted.high_bytes,
+        longest: counted.longest_run,
+    }
+}
+
+// The Rust's patterns in some octets.
+pub fn patterns(octets: &[u8], found: &[Pattern]) -> Vec<Entry> {
+    found.iter().map(|pattern| entry(octets, pattern)).collect()
+}
+
+// A pattern of the Rust. A text must be what the octets have there.
+fn entry(octets: &[u8], pattern: &Pattern) -> Entry {
+    match pattern {
+        Pattern::Padding {
+            start,
+            length,
+            value,
+        } => [1, *start, *length, usize::from(*value)],
+        Pattern::AsciiText { start, text } => {
+            let there = &octets[*start..][..text.len()];
+            assert_eq!(text.as_bytes(), there, "a text in {}", hex(octets));
+            [2, *start, text.len(), 0]
+        }
+        Pattern::Suspicious { description } => match description.as_str() {
+            "Frame contains all zeros" => [3, 0, 0, 0],
+            "Frame starts with sequential test pattern" => [4, 0, 0, 0],
+            text => panic!("a pattern of no number: {text:?}"),
+        },
+        Pattern::RepeatedSequence { .. } => panic!("a repeated sequence, which never comes"),
+    }
+}
