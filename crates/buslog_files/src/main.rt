@@ -1,5 +1,5 @@
 // Lists the logs that its arguments name, each behind its name, by the call that `buslog` makes: the gate's cases.
-// tools/log_model makes them and says what is printed.
+// tools/model makes them and says what is printed.
 use libc::STDOUT_FILENO;
 use log_input::InputListed;
 

@@ -1,4 +1,4 @@
-// The calls: tools/log_model/calls.py says what their lines hold.
+// The calls: tools/model/calls.py says what their lines hold.
 use crate::answers;
 use replay_cases::input;
 use replay_cases::print;

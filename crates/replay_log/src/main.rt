@@ -1,4 +1,4 @@
-// Answers a list of calls of the log on one buffer: standard input has one a line, as tools/log_model writes them, and
+// Answers a list of calls of the log on one buffer: standard input has one a line, as tools/model writes them, and
 // standard output gets the answers. The file `stdout` beside it has that model's: docs/REPLAY.md.
 mod answers;
 mod calls;

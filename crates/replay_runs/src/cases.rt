@@ -1,4 +1,4 @@
-// The cases: tools/finder_model/main.py says what their lines hold, and what each kind asks.
+// The cases: tools/model/cases.py says what their lines hold, and what each kind asks.
 use crate::answers;
 use crate::pieces;
 use crc::CheckRule;

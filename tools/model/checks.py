@@ -4,17 +4,21 @@
 RULES = {"g": (0x81, 0x8408), "h": (0x55, 0xA001)}
 
 
+def steps(constant, count, register):
+    """So many steps: shift right; if the bit shifted out was 1, XOR the constant."""
+    for _ in range(count):
+        register, shifted_out = divmod(register, 2)
+        if shifted_out == 1:
+            register ^= constant
+    return register
+
+
 def check(bits, constant, octets):
     """Start with all bits one, XOR in each octet, take eight steps, complement at the end."""
     all_ones = 2**bits - 1
     register = all_ones
     for octet in octets:
-        register ^= octet
-        for _ in range(8):
-            shifted_out = register % 2
-            register //= 2
-            if shifted_out == 1:
-                register ^= constant
+        register = steps(constant, 8, register ^ octet)
     return register ^ all_ones
 
 

@@ -16,32 +16,15 @@ line each:
 In a call nothing stands between the words. Numbers are hexadecimal. The buffer has 4096 octets, which are A5 at first.
 """
 
-from chance import below
-from log import BUS, ETHERNET, IP, MOST, read, record
+from collections import Counter
+
+from finder import Refused
+from log import BUS, ETHERNET, IP, KINDS, MOST, START, TRAILER, Record, append, not_appended, read, read_back
 
 SIZE = 4096
-KINDS = (BUS, IP, ETHERNET)
 
 # Used counts and ends beyond the buffer.
 BEYOND = (SIZE + 1, SIZE + 2, 0x10000, 0x80000000, 0xFFFFFFFF)
-
-
-def question(used, kind, length):
-    """The first question of appending that fails, if one does."""
-    if used > SIZE:
-        return 47
-    if kind not in KINDS:
-        return 42
-    if not 1 <= length <= MOST:
-        return 43
-    if used + length + 3 > SIZE:
-        return 46
-    return None
-
-
-def shown(last):
-    """An answer of reading that is no record."""
-    return "S" if last is None else f"E {last:02x}"
 
 
 class Calls:
@@ -53,34 +36,24 @@ class Calls:
 
     def append(self, used, kind, length, first=0):
         """Appends, and gives the used count behind it."""
-        call = f"A{used:08x}{kind:02x}{length:04x}{first:02x}"
-        refused = question(used, kind, length)
-        if refused:
-            self.made.append((call, shown(refused)))
-            return used
-        octets = record(kind, bytes((first + i) % 256 for i in range(length)))
-        self.buffer[used : used + len(octets)] = octets
-        self.made.append((call, f"U {used + len(octets):04x}"))
-        return used + len(octets)
-
-    def answers(self, end):
-        """The records back from an end, newest first, and the answer behind them."""
-        return list(read(bytes(self.buffer[:end]))) if end <= SIZE else [47]
+        answer = append(self.buffer, used, kind, bytes((first + i) % 256 for i in range(length)))
+        refused = isinstance(answer, Refused)
+        text = str(answer) if refused else f"U {answer:04x}"
+        self.made.append((f"A{used:08x}{kind:02x}{length:04x}{first:02x}", text))
+        return used if refused else answer
 
     def read(self, end):
         """Reads the record that ends there."""
-        answer = self.answers(end)[0]
-        if isinstance(answer, tuple):
-            kind, octets = answer
-            text = f"R {kind:02x} {end - 3 - len(octets):04x} {len(octets):04x} {octets.hex()}"
-        else:
-            text = shown(answer)
-        self.made.append((f"R{end:08x}", text))
+        answer = read(self.buffer, end)
+        if isinstance(answer, Record):
+            kind, start, octets = answer
+            answer = f"R {kind:02x} {start:04x} {len(octets):04x} {octets.hex()}"
+        self.made.append((f"R{end:08x}", str(answer)))
 
     def count(self, end):
         """Counts the records back from there."""
-        *records, last = self.answers(end)
-        self.made.append((f"C{end:08x}", f"C {len(records):04x} {shown(last)}"))
+        *records, last = read_back(self.buffer, end)
+        self.made.append((f"C{end:08x}", f"C {len(records):04x} {last}"))
 
     def look(self, ends):
         """Reads and counts from these ends and beside them, the first six, the last and beyond; shows the buffer."""
@@ -98,11 +71,11 @@ def refusals(calls):
     for used in (0, SIZE - 3, SIZE - 1, SIZE, *BEYOND):
         for kind in (0, *KINDS, 4, 255):
             for length in (0, 1, MOST, MOST + 1, MOST + 6):
-                if question(used, kind, length):
+                if not_appended(SIZE, used, kind, length):
                     calls.append(used, kind, length)
     for kind in KINDS:
         for length in (1, 2, 255, 256, MOST):
-            calls.append(SIZE - length - 2, kind, length)
+            calls.append(SIZE - length - TRAILER + 1, kind, length)
     calls.look([])
 
 
@@ -112,8 +85,8 @@ def sizes(calls):
     ends.append(calls.append(ends[-1], IP, MOST, 0x81))
     ends.append(calls.append(ends[-1], ETHERNET, MOST, 0xFF))
     left = SIZE - ends[-1]
-    calls.append(ends[-1], BUS, left - 2)
-    ends.append(calls.append(ends[-1], BUS, left - 3))
+    calls.append(ends[-1], BUS, left - TRAILER + 1)
+    ends.append(calls.append(ends[-1], BUS, left - TRAILER))
     calls.append(ends[-1], BUS, 1)
     calls.look(ends)
     for used, kind, length in ((ends[0], ETHERNET, 200), (ends[0], BUS, 2), (0, IP, 1), (1000, IP, 300), (3, BUS, 4)):
@@ -124,7 +97,7 @@ def sizes(calls):
 def last_places(calls):
     """Records that end with the buffer, and one octet behind that."""
     for kind, length in ((BUS, MOST), (IP, 256), (ETHERNET, 1)):
-        used = SIZE - length - 3
+        used = SIZE - length - TRAILER
         calls.append(used, kind, length, 0xC0)
         calls.append(used + 1, kind, length)
         calls.look([used])
@@ -133,15 +106,8 @@ def last_places(calls):
 def borders(calls):
     """An end where a trailer's length and the octet behind it look like a trailer: lengths 0 and 1, 1514 and 1515, a
     record from the buffer's start, and one octet too few for it."""
-    for used, length, first in (
-        (0, 256, 0),
-        (0, 256, 1),
-        (2000, 261, 0xEA),
-        (2000, 261, 0xEB),
-        (0, 261, 0xEB),
-        (0, 257, 2),
-        (0, 257, 3),
-    ):
+    ends = [(0, 256, 0), (0, 256, 1), (2000, 261, 0xEA), (2000, 261, 0xEB), (0, 261, 0xEB), (0, 257, 2), (0, 257, 3)]
+    for used, length, first in ends:
         end = calls.append(used, ETHERNET, length, 0x40)
         calls.append(end, IP, 1, first)
         calls.read(end + 1)
@@ -149,26 +115,26 @@ def borders(calls):
     calls.look([])
 
 
-def random_log(calls, longest):
+def random_log(calls, chance, longest):
     """Random records and refused ones from the start until the buffer is full, which are read back; then some over
     older ones."""
     used, ends = 0, []
     while SIZE - used > longest + 6:
-        behind = calls.append(used, below(5), below(longest + 1), below(256))
+        behind = calls.append(used, chance.below(5), chance.below(longest + 1), chance.below(256))
         if behind > used:
             ends.append(behind)
         used = behind
-    calls.append(used, BUS, SIZE - used - 2)
-    ends.append(calls.append(used, BUS, SIZE - used - 3, 0x90))
+    calls.append(used, BUS, SIZE - used - TRAILER + 1)
+    ends.append(calls.append(used, BUS, SIZE - used - TRAILER, 0x90))
     calls.look(ends)
-    *records, last = calls.answers(SIZE)
-    assert last is None and len(records) == len(ends)
+    *records, last = read_back(calls.buffer, SIZE)
+    assert last == START and len(records) == len(ends)
     for end in ends[1::4]:
-        ends.append(calls.append(end, 1 + below(3), 1 + below(longest), below(256)))
+        ends.append(calls.append(end, 1 + chance.below(3), 1 + chance.below(longest), chance.below(256)))
     calls.look(ends[-8:])
 
 
-def made():
+def made(chance):
     """All calls and their answers, in order."""
     calls = Calls()
     refusals(calls)
@@ -176,5 +142,19 @@ def made():
     last_places(calls)
     borders(calls)
     for longest in (140, 700):
-        random_log(calls, longest)
+        random_log(calls, chance, longest)
     return calls.made
+
+
+def table(made):
+    """How many calls of each kind have each answer."""
+    names = {"U": "a used count, or a record", "R": "a used count, or a record", "S": "start reached"}
+    counts = Counter()
+    for call, answer in made:
+        if call[0] != "B":
+            last = answer.split(" ", 2)[2] if call[0] == "C" else answer
+            counts[names.get(last[0]) or str(int(last[2:], 16)), call[0]] += 1
+    yield "| answer | `append` | `read_record` and `record_payload` | `count_records`: behind the records |"
+    yield "|---|---|---|---|"
+    for name in [*dict.fromkeys(names.values()), *sorted({name for name, _ in counts} - set(names.values()))]:
+        yield f"| {name} | " + " | ".join(str(counts[name, kind] or "") for kind in "ARC") + " |"

@@ -5,10 +5,27 @@ from functools import cache
 
 from frames import acceptable, length_of, octet_count
 
-# The finder's answers: a report, "none", or the first question that fails.
-Report = namedtuple("Report", "place count")
-Refused = namedtuple("Refused", "question")
-NONE = "none"
+
+class Report(namedtuple("Report", "place count")):
+    """A frame that is found: its place and its octet count. As text it is what stands in a stored answer."""
+
+    @property
+    def end(self):
+        return self.place + self.count
+
+    def __str__(self):
+        return f"F {self.place:04x} {self.count:04x}"
+
+
+class Refused(namedtuple("Refused", "question")):
+    """The first question that fails. As text it is what stands in a stored answer."""
+
+    def __str__(self):
+        return f"E {self.question:02x}"
+
+
+# The answer where no frame is found.
+NONE = "N"
 
 
 def own_octets(run, place):
@@ -34,7 +51,7 @@ def calls(rule, run, place=0):
     """The answers from a place on, each next call from the last report's end, until one is no report."""
     answers = [find(rule, run, place)]
     while isinstance(answers[-1], Report):
-        answers.append(find(rule, run, sum(answers[-1])))
+        answers.append(find(rule, run, answers[-1].end))
     return answers
 
 

@@ -2,10 +2,8 @@
 
 import struct
 
-from chance import below, octets
 from frames import written as frame
-from links import frame as ethernet_frame
-from links import message
+from links import ethernet_frame, message
 from log import BUS, ETHERNET, IP, written
 
 # Stations: the controller and the panel, which are masters, and two moisture sensors.
@@ -15,7 +13,10 @@ CONTROLLER, PANEL, WET_END, DRY_END = 5, 16, 130, 131
 TOKEN, POLL_FOR_MASTER, EXPECTING_REPLY, NOT_EXPECTING_REPLY = 0, 1, 5, 6
 
 # A read of analog input 1, present value.
-OBJECT = bytes.fromhex("0c00000001") + bytes.fromhex("1955")
+OBJECT = bytes.fromhex("0c000000011955")
+
+# A Who-Is request for all networks.
+WHO_IS = bytes.fromhex("0120ffff00ff1008")
 
 
 def token(source, destination):
@@ -34,47 +35,45 @@ def told(sensor, call, moisture):
     return frame("g", NOT_EXPECTING_REPLY, CONTROLLER, sensor, bytes([0x01, 0x00, 0x30, call, 0x0C]) + OBJECT + value)
 
 
-def spark():
+def broadcast(npdu):
+    """An Ethernet frame for all."""
+    return ethernet_frame(b"\xff" * 6, bytes.fromhex("020000000010"), npdu)
+
+
+def spark(chance):
     """A few octets that nobody sent."""
-    return octets(1 + below(9))
+    return chance.octets(1 + chance.below(9))
 
 
 def turn(call, wet, dry):
     """The token goes round once, and both sensors are read."""
-    return [
-        token(PANEL, CONTROLLER),
-        asked(WET_END, call),
-        told(WET_END, call, wet),
-        asked(DRY_END, call + 1),
-        told(DRY_END, call + 1, dry),
-        token(CONTROLLER, PANEL),
-    ]
+    wet_end = asked(WET_END, call), told(WET_END, call, wet)
+    dry_end = asked(DRY_END, call + 1), told(DRY_END, call + 1, dry)
+    return [token(PANEL, CONTROLLER), *wet_end, *dry_end, token(CONTROLLER, PANEL)]
 
 
-def broken(sent):
+def broken(chance, sent):
     """A frame with one octet changed."""
-    place = 8 + below(len(sent) - 8)
+    place = 8 + chance.below(len(sent) - 8)
     return sent[:place] + bytes([sent[place] ^ 0x20]) + sent[place + 1 :]
 
 
-def records():
+def records(chance):
     """What was heard, oldest first."""
     first = turn(1, 18.4, 15.2)
     second = turn(3, 18.1, 14.9)
     third = turn(5, 17.9, 14.8)
-    poll = frame("g", POLL_FOR_MASTER, CONTROLLER + 1, CONTROLLER)
-    npdu = bytes.fromhex("0120ffff00ff1008")
     yield BUS, b"".join(first)
-    yield BUS, b"".join(sent + spark() for sent in second)
-    yield BUS, poll
-    yield IP, message(0x0B, npdu)
-    yield BUS, b"".join([spark(), third[0], third[1], broken(third[2]), third[3], spark(), third[4], third[5], spark()])
-    yield ETHERNET, ethernet_frame(b"\xff" * 6, bytes.fromhex("020000000010"), npdu)
-    yield BUS, octets(40)
+    yield BUS, b"".join(sent + spark(chance) for sent in second)
+    yield BUS, frame("g", POLL_FOR_MASTER, CONTROLLER + 1, CONTROLLER)
+    yield IP, message(0x0B, WHO_IS)
+    heard = [spark(chance), *third[:2], broken(chance, third[2]), third[3], spark(chance), *third[4:], spark(chance)]
+    yield BUS, b"".join(heard)
+    yield ETHERNET, broadcast(WHO_IS)
+    yield BUS, chance.octets(40)
     yield BUS, told(DRY_END, 8, 14.7)
 
 
-# How many octets the card lost at the front.
-TORN = 29
-
-LOG = written(records())[TORN:]
+def torn_log(chance):
+    """The log, of which the card has lost 29 octets at the front."""
+    return written(records(chance))[29:]

@@ -21,7 +21,7 @@ def ip_errors(octets):
         yield "above 1497 octets"
 
 
-def frame(destination, source, payload):
+def ethernet_frame(destination, source, payload):
     """An Ethernet frame, with zeros up to 60 octets."""
     return (destination + source + b"\x82\xdc\x82\x82\x03" + payload).ljust(60, b"\x00")
 

@@ -1,4 +1,4 @@
-"""The list of stored runs. A case and its answer are a line each:
+"""The lines of the stored runs. A case and its answer are a line each:
 
     FR PLACE RUN   the finder from a place
     ANSWER
@@ -17,11 +17,9 @@ In a case nothing stands between the words. R is the rule, `h` house or `g` Anne
 """
 
 import re
-import sys
 from collections import Counter
 
-from finder import NONE, Refused, Report, calls, find, reports
-from runs import stored
+from finder import Refused, calls, find, reports
 
 BEFORE = 0xA5A5A5A5
 BEHIND = 4
@@ -49,44 +47,31 @@ def told(run):
     return f"{len(parts):04x}" + "".join(f"{total:08x}{len(octets):04x}{octets.hex()}" for octets, total in parts)
 
 
-def shown(answer):
-    """An answer of the finder."""
-    if isinstance(answer, Report):
-        return f"F {answer.place:04x} {answer.count:04x}"
-    return "N" if answer == NONE else f"E {answer.question:02x}"
-
-
-def step_answers(rule, run, place):
+def steps(rule, run, place):
     """The reader's steps: the place stays where an answer is no report."""
-    answers = calls(rule, run, place)
-    end = sum(answers[-2]) if len(answers) > 1 else place
-    return " ".join([shown(answer) for answer in answers] + [f"{end:04x}"])
+    *found, last = calls(rule, run, place)
+    end = found[-1].end if found else place
+    return " ".join([*map(str, found), str(last), f"{end:04x}"])
 
 
-def counted(rule, run):
-    """The count of the reports, or question 31."""
-    last = calls(rule, run)[-1]
-    return shown(last) if isinstance(last, Refused) else f"F {len(reports(rule, run)):04x}"
-
-
-def reading_answer(rule, run, size):
+def reading(rule, run, size):
     """The count, then the whole reading into a list of that size: nothing is written where 32 refuses."""
-    count = counted(rule, run)
+    last = calls(rule, run)[-1]
     numbers = [number for report in reports(rule, run) for number in report]
-    refused = count.startswith("E")
+    count = last if isinstance(last, Refused) else f"F {len(numbers) // 2:04x}"
     fits = len(numbers) <= size
     lent = [BEFORE] * (size + BEHIND)
-    if not refused and fits:
+    if fits:
         lent[: len(numbers)] = numbers
-    answer = count if refused or fits else shown(Refused(32))
-    return " ".join([count, answer] + [f"{number:04x}" for number in lent])
+    return " ".join([str(count), str(count if fits else Refused(32)), *(f"{number:04x}" for number in lent)])
 
 
-ANSWERS = {
-    "F": lambda rule, run, place: shown(find(rule, run, place)),
-    "N": step_answers,
-    "R": reading_answer,
-}
+ANSWERS = {"F": lambda *case: str(find(*case)), "N": steps, "R": reading}
+
+
+def case_and_answer(heading, kind, rule, number, run):
+    """A case's line and its answer's."""
+    return f"{kind}{rule}{number:08x}{told(run)}", ANSWERS[kind](rule, run, number)
 
 
 def table(cases):
@@ -97,22 +82,3 @@ def table(cases):
     yield "|---" * (1 + len(columns)) + "|"
     for heading in dict.fromkeys(case[0] for case in cases):
         yield f"| {heading} | " + " | ".join(str(counts[heading, column] or "") for column in columns) + " |"
-
-
-def main(part):
-    """Prints a part of the list."""
-    cases = stored()
-    if part == "counts":
-        lines = table(cases)
-    elif part == "cases":
-        lines = (f"{kind}{rule}{number:08x}{told(run)}" for _, kind, rule, number, run in cases)
-    elif part == "answers":
-        lines = (ANSWERS[kind](rule, run, number) for _, kind, rule, number, run in cases)
-    else:
-        sys.exit("finder_model: the parts are cases, answers and counts")
-    for line in lines:
-        print(line)
-
-
-if __name__ == "__main__":
-    main(sys.argv[1] if len(sys.argv) == 2 else "")
