@@ -1,7 +1,8 @@
 //! The frames of a run of bus octets.
 
-use crate::datalink::Result;
-use crate::{raw, CheckRule};
+use crate::cases::CheckRule;
+use crate::error::Result;
+use crate::raw;
 use std::iter::FusedIterator;
 use std::ops::Range;
 

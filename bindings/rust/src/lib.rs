@@ -32,9 +32,11 @@ pub mod finder;
 pub mod log;
 pub mod util;
 
+mod cases;
+mod error;
 mod ffi;
+mod questions;
 #[allow(unsafe_code)]
 mod raw;
-mod rule;
 
-pub use rule::CheckRule;
+pub use cases::CheckRule;

@@ -1,20 +1,10 @@
 //! The log: records, each with its kind and length behind it.
 
-use crate::datalink::{DataLinkError, Result};
+use crate::error::{DataLinkError, Result};
 use crate::raw;
 use std::iter::FusedIterator;
 
-/// What the octets of a record are.
-#[derive(Debug, Clone, Copy, PartialEq, Eq, Hash)]
-#[repr(u8)]
-pub enum RecordKind {
-    /// A run of MS/TP bus octets.
-    Bus = 1,
-    /// A BVLC message.
-    Ip = 2,
-    /// An Ethernet frame.
-    Ethernet = 3,
-}
+pub use crate::cases::RecordKind;
 
 impl TryFrom<u8> for RecordKind {
     type Error = DataLinkError;
@@ -25,7 +15,7 @@ impl TryFrom<u8> for RecordKind {
             1 => Self::Bus,
             2 => Self::Ip,
             3 => Self::Ethernet,
-            _ => return Err(DataLinkError::of(42)),
+            _ => return Err(raw::data_link_error(42)),
         })
     }
 }

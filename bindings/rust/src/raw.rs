@@ -8,13 +8,12 @@
 //!
 //! The answer FF, for a number that names no rule, type or function, does not come: the numbers are those of the cases
 //! of `CheckRule` (0, 1), `MstpFrameType` (0 to 7) and `BvlcFunction` (00 to 0C), and these are all named.
+//!
+//! Places and counts that are answered lie within the caller's octets.
 
-use crate::datalink::bip::BvlcFunction;
-use crate::datalink::mstp::MstpFrameType;
-use crate::datalink::{DataLinkError, Result};
+use crate::cases::{BvlcFunction, CheckRule, MstpFrameType, RecordKind};
+use crate::error::{DataLinkError, Result};
 use crate::ffi;
-use crate::log::RecordKind;
-use crate::CheckRule;
 
 #[cfg(test)]
 mod tests;
@@ -40,7 +39,7 @@ fn answered<T>(answer: u8, value: T) -> Result<T> {
     debug_assert_ne!(answer, ffi::NO_CASE);
     match answer {
         0 => Ok(value),
-        question => Err(DataLinkError::of(question)),
+        question => Err(data_link_error(question)),
     }
 }
 
@@ -58,9 +57,13 @@ fn given<T>(answer: u8, value: T) -> T {
     value
 }
 
-pub(crate) fn data_link_error(question: u8) -> u8 {
+pub(crate) fn data_link_error(question: u8) -> DataLinkError {
     // SAFETY: numbers only.
-    unsafe { ffi::lefkanu_data_link_error(question) }
+    match unsafe { ffi::lefkanu_data_link_error(question) } {
+        1 => DataLinkError::InvalidFrame(question),
+        2 => DataLinkError::CrcError(question),
+        _ => DataLinkError::Refused(question),
+    }
 }
 
 pub(crate) fn calculate_header_crc(rule: CheckRule, header: &[u8; 5]) -> u8 {

@@ -1,6 +1,7 @@
 //! The data check.
 
-use crate::{raw, CheckRule};
+use crate::cases::CheckRule;
+use crate::raw;
 
 /// The data check of any octets; a frame sends its low octet first.
 ///

@@ -1,39 +1,9 @@
 //! BVLC messages of BACnet/IP.
 
-use super::{part, DataLinkError, Result};
+use crate::error::{DataLinkError, Result};
 use crate::raw::{self, Carried};
 
-/// What a message is for.
-#[derive(Debug, Clone, Copy, PartialEq, Eq, Hash)]
-#[repr(u8)]
-pub enum BvlcFunction {
-    /// BVLC-Result.
-    Result = 0x00,
-    /// Write-Broadcast-Distribution-Table.
-    WriteBroadcastDistributionTable = 0x01,
-    /// Read-Broadcast-Distribution-Table.
-    ReadBroadcastDistributionTable = 0x02,
-    /// Read-Broadcast-Distribution-Table-Ack.
-    ReadBroadcastDistributionTableAck = 0x03,
-    /// Forwarded-NPDU.
-    ForwardedNpdu = 0x04,
-    /// Register-Foreign-Device.
-    RegisterForeignDevice = 0x05,
-    /// Read-Foreign-Device-Table.
-    ReadForeignDeviceTable = 0x06,
-    /// Read-Foreign-Device-Table-Ack.
-    ReadForeignDeviceTableAck = 0x07,
-    /// Delete-Foreign-Device-Table-Entry.
-    DeleteForeignDeviceTableEntry = 0x08,
-    /// Distribute-Broadcast-To-Network.
-    DistributeBroadcastToNetwork = 0x09,
-    /// Original-Unicast-NPDU.
-    OriginalUnicastNpdu = 0x0A,
-    /// Original-Broadcast-NPDU.
-    OriginalBroadcastNpdu = 0x0B,
-    /// Secure-BVLL.
-    SecureBvll = 0x0C,
-}
+pub use crate::cases::BvlcFunction;
 
 impl TryFrom<u8> for BvlcFunction {
     type Error = DataLinkError;
@@ -54,7 +24,7 @@ impl TryFrom<u8> for BvlcFunction {
             0x0A => Self::OriginalUnicastNpdu,
             0x0B => Self::OriginalBroadcastNpdu,
             0x0C => Self::SecureBvll,
-            _ => return Err(DataLinkError::of(13)),
+            _ => return Err(raw::data_link_error(13)),
         })
     }
 }
@@ -142,7 +112,7 @@ pub enum BvlcMessage<'a> {
 /// ```
 pub fn process_bvlc_message(data: &[u8]) -> Result<BvlcMessage<'_>> {
     Ok(match raw::process_bvlc_message(data)? {
-        Carried::Npdu { place, count } => BvlcMessage::Npdu(part(data, place, count)),
+        Carried::Npdu { place, count } => BvlcMessage::Npdu(&data[place..place + count]),
         Carried::TimeToLive(seconds) => BvlcMessage::TimeToLive(seconds),
         Carried::NoNpdu => BvlcMessage::NoNpdu,
     })

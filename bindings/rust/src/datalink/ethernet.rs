@@ -1,6 +1,6 @@
 //! Ethernet frames.
 
-use super::{part, Result};
+use crate::error::Result;
 use crate::raw;
 
 /// The address of all stations.
@@ -109,7 +109,7 @@ impl EthernetFrame {
 pub fn decode_header(data: &[u8]) -> Result<(EthernetHeader, &[u8])> {
     let (dest_mac, src_mac, [place, count]) = raw::ethernet_decode(data)?;
     let header = EthernetHeader { dest_mac, src_mac };
-    Ok((header, part(data, place, count)))
+    Ok((header, &data[place..place + count]))
 }
 
 /// Writes a frame at the front of an output and answers how many octets it has; the rest stays. Refused with 24 or 25,

@@ -1,7 +1,10 @@
 //! MS/TP frames.
 
-use super::{part, DataLinkError, Result};
-use crate::{raw, CheckRule};
+use crate::cases::CheckRule;
+use crate::error::Result;
+use crate::raw;
+
+pub use crate::cases::MstpFrameType;
 
 /// The first octet of the preamble.
 pub const MSTP_PREAMBLE_55: u8 = 0x55;
@@ -13,45 +16,6 @@ pub const MSTP_MAX_DATA_LENGTH: usize = 501;
 pub const MSTP_HEADER_SIZE: usize = 8;
 /// How many octets a written frame may have.
 pub const MSTP_MAX_FRAME_SIZE: usize = MSTP_HEADER_SIZE + MSTP_MAX_DATA_LENGTH + 2;
-
-/// What a frame is for.
-#[derive(Debug, Clone, Copy, PartialEq, Eq, Hash)]
-#[repr(u8)]
-pub enum MstpFrameType {
-    /// Token.
-    Token = 0,
-    /// Poll For Master.
-    PollForMaster = 1,
-    /// Reply To Poll For Master.
-    ReplyToPollForMaster = 2,
-    /// Test Request.
-    TestRequest = 3,
-    /// Test Response.
-    TestResponse = 4,
-    /// BACnet Data Expecting Reply.
-    BacnetDataExpectingReply = 5,
-    /// BACnet Data Not Expecting Reply.
-    BacnetDataNotExpectingReply = 6,
-    /// Reply Postponed.
-    ReplyPostponed = 7,
-}
-
-impl MstpFrameType {
-    /// The type of a number; none above 7.
-    pub fn from_u8(value: u8) -> Option<Self> {
-        Some(match value {
-            0 => Self::Token,
-            1 => Self::PollForMaster,
-            2 => Self::ReplyToPollForMaster,
-            3 => Self::TestRequest,
-            4 => Self::TestResponse,
-            5 => Self::BacnetDataExpectingReply,
-            6 => Self::BacnetDataNotExpectingReply,
-            7 => Self::ReplyPostponed,
-            _ => return None,
-        })
-    }
-}
 
 /// A frame without its data: what [`decode_header`] gives beside them.
 #[derive(Debug, Clone, Copy, PartialEq, Eq)]
@@ -206,14 +170,15 @@ pub fn decode_header(rule: CheckRule, data: &[u8]) -> Result<(MstpHeader, &[u8])
         raw::mstp_decode(rule, data)?;
     let header = MstpHeader {
         // Reading has asked question 3 already.
-        frame_type: MstpFrameType::from_u8(frame_type as u8).ok_or_else(|| DataLinkError::of(3))?,
+        frame_type: MstpFrameType::from_u8(frame_type as u8)
+            .ok_or_else(|| raw::data_link_error(3))?,
         destination: destination as u8,
         source: source as u8,
         data_length: count as u16,
         header_crc: header_crc as u8,
         data_crc: (has_data_crc == 1).then_some(data_crc as u16),
     };
-    Ok((header, part(data, place, count)))
+    Ok((header, &data[place..place + count]))
 }
 
 /// Writes a frame at the front of an output and answers how many octets it has; the rest stays. Refused with 7 or 8, and

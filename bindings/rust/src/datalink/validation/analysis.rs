@@ -1,9 +1,11 @@
 //! Validation, statistics and patterns together.
 
-use super::patterns::{patterns, with_list};
-use super::{FrameStatistics, Pattern, ValidationResult};
-use crate::datalink::Result;
-use crate::{raw, CheckRule};
+use super::patterns::{patterns, with_list, Pattern};
+use super::result::ValidationResult;
+use super::statistics::FrameStatistics;
+use crate::cases::CheckRule;
+use crate::error::Result;
+use crate::raw;
 
 /// All that can be said of a frame.
 #[derive(Debug, Clone, PartialEq, Eq)]

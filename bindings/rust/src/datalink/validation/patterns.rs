@@ -1,7 +1,7 @@
 //! Patterns in a frame.
 
 use super::reasons::SuspiciousReason;
-use crate::datalink::Result;
+use crate::error::Result;
 use crate::raw;
 
 /// How many numbers an entry has: pattern, start, length, octet.

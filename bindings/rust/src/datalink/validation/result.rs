@@ -1,9 +1,8 @@
 //! The validators and their result.
 
 use super::findings::{error, warning, ValidationError, ValidationWarning};
-use crate::datalink::DataLinkType;
+use crate::cases::{CheckRule, DataLinkType};
 use crate::raw::{self, Findings};
-use crate::CheckRule;
 
 // Where the entries stand in the library's result, each of three numbers.
 const ERRORS: usize = 5;

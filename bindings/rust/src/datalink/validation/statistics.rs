@@ -1,6 +1,6 @@
 //! How often octets occur.
 
-use crate::datalink::Result;
+use crate::error::Result;
 use crate::raw::{self, Counts};
 
 /// Counts of a frame's octets. There is no entropy.
