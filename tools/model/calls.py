@@ -154,7 +154,7 @@ def table(made):
         if call[0] != "B":
             last = answer.split(" ", 2)[2] if call[0] == "C" else answer
             counts[names.get(last[0]) or str(int(last[2:], 16)), call[0]] += 1
-    yield "| answer | `append` | `read_record` and `record_payload` | `count_records`: behind the records |"
+    yield "| answer | `append` | `read_record` and `record_payload` | `count_records`: after the records |"
     yield "|---|---|---|---|"
     for name in [*dict.fromkeys(names.values()), *sorted({name for name, _ in counts} - set(names.values()))]:
         yield f"| {name} | " + " | ".join(str(counts[name, kind] or "") for kind in "ARC") + " |"

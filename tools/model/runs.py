@@ -67,7 +67,7 @@ def ends(add, rule, draw):
         add.steps("cut at every octet", frames[:count])
     for last in (b"\x55", b"\x55\x55", HEAD, b"\x55" + HEAD, HEAD + b"\x55", HEAD + HEAD, b"\xff\xff"):
         for run in (last, token(rule) + last, request(rule) + last, last + token(rule), last + token(rule) + last):
-            add.ask("parts of a head before and behind frames", run)
+            add.ask("parts of a head before and after frames", run)
     for length in (1, 2, 3, 500, 501):
         cut = written(rule, 6, 16, 5, b"\x11" * length)[:-1]
         add.ask("frames that run off the end", cut)
@@ -79,7 +79,7 @@ def ends(add, rule, draw):
 
 
 def skipped(add, rule, draw):
-    heading = "good frames behind a broken header or inside its data"
+    heading = "good frames after a broken header or inside its data"
     inside = token(rule) + b"\x11" * 30 + request(rule)
     for length in (20, 60, 66, 67, 501, 502, 65535):
         header = headed(rule, 5, 16, 5, length)
@@ -149,7 +149,7 @@ def noisy(add, rule, draw):
         add.read("the same with octets changed, left out or put in", draw.with_changes(run))
     for _ in range(200):
         good = b"".join(draw.small_frame() for _ in range(1 + draw.below(4)))
-        add.read("frames one behind another, with octets changed, left out or put in", draw.with_changes(good))
+        add.read("frames one after another, with octets changed, left out or put in", draw.with_changes(good))
     for _ in range(40):
         add.read("sparks alone", draw.sparks(1 + draw.below(8)))
 
