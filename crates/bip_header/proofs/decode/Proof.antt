@@ -1,4 +1,4 @@
--- `bvlc::decode` meets its contract: the questions decide between the refusal and the header.
+-- `bip_header::decode` meets its contract: the questions decide between the refusal and the header.
 -- Assumes nothing.
 use native.Mathlib.Omega.{arith}
 use Rattle.bip_header.proofs.Headers.{Accepted, facts, decode-refused, decode-accepted}

@@ -1,4 +1,4 @@
--- `bvlc::encode` meets its contract: the question, then four octets copied to the front.
+-- `bip_header::encode` meets its contract: the question, then four octets copied to the front.
 -- Assumes nothing.
 use Rattle.bip_header.proofs.Headers.{no-room, written}
 use borrow.Author.Needs.{needs}

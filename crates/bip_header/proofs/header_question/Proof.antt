@@ -1,4 +1,4 @@
--- `bvlc::header_question` meets its contract: each test is a question, asked in their order.
+-- `bip_header::header_question` meets its contract: each test is a question, asked in their order.
 -- Assumes nothing.
 use borrow.Author.Tests.{eq-eqb, ne-eqb, le-leb, lt-leb}
 use Rattle.octets.proofs.Questions.{passed, failed, ended}

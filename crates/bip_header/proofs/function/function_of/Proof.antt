@@ -1,4 +1,4 @@
--- `bvlc::function::function_of` meets its contract: each arm is an entry of the list of functions.
+-- `bip_header::function::function_of` meets its contract: each arm is an entry of the list of functions.
 -- Assumes nothing.
 use Rattle.octets.proofs.Cases.{from-next}
 use Rattle.bip_header.specs.Function.{functionOf}

@@ -1,4 +1,4 @@
--- `bvlc::function::BvlcFunction::try_from` meets its contract: the test is the definition's.
+-- `bip_header::function::BvlcFunction::try_from` meets its contract: the test is the definition's.
 -- Assumes nothing.
 use Rattle.bip_header.proofs.Functions.{from-known, from-unknown}
 use borrow.Author.Needs.{needs}
