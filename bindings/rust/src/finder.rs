@@ -17,8 +17,11 @@ pub struct Report {
 
 impl Report {
     /// The frame's places, as in `&run[report.range()]`.
+    ///
+    /// A report can also be made by hand. If its end is above `usize::MAX`, the range ends at `usize::MAX`: no slice has
+    /// such a range, and `run.get(report.range())` is `None`.
     pub fn range(&self) -> Range<usize> {
-        self.place..self.place + self.count
+        self.place..self.place.saturating_add(self.count)
     }
 }
 

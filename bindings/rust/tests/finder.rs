@@ -134,3 +134,23 @@ fn ranges() {
     assert_eq!(report.range(), 1..9);
     assert_eq!(run[report.range()].to_vec(), octets(TOKEN));
 }
+
+// Reports made by hand, around the largest end. bindings/test runs this with and without overflow checks.
+#[test]
+fn ranges_that_no_run_has() {
+    const MAX: usize = usize::MAX;
+    for (place, count, range) in [
+        (MAX, 0, MAX..MAX),
+        (MAX - 8, 7, MAX - 8..MAX - 1),
+        (MAX - 8, 8, MAX - 8..MAX),
+        (MAX - 8, 9, MAX - 8..MAX),
+        (MAX, 1, MAX..MAX),
+        (MAX, 8, MAX..MAX),
+        (8, MAX, 8..MAX),
+        (MAX, MAX, MAX..MAX),
+    ] {
+        let report = Report { place, count };
+        assert_eq!(report.range(), range);
+        assert_eq!(octets(TOKEN).get(report.range()), None);
+    }
+}
