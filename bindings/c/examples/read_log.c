@@ -2,17 +2,18 @@
    and the data. Checks are by the Annex G rule, or by the house rule. Last comes what ended the reading. */
 #include "../lefkanu.h"
 
+#include <errno.h>
 #include <stdio.h>
 #include <stdlib.h>
 #include <string.h>
 
-static int fail(const char *name, const char *message)
+static int fail(const char *message)
 {
-    fprintf(stderr, "read_log: %s%s\n", name, message);
+    fprintf(stderr, "read_log: %s\n", message);
     return 1;
 }
 
-/* All octets of a file, and how many; NULL where it can't be read. */
+/* All octets of a file, and how many; NULL where it can't be read, and then errno says why. */
 static uint8_t *read_file(const char *name, size_t *octets)
 {
     FILE *file = fopen(name, "rb");
@@ -30,11 +31,13 @@ static uint8_t *read_file(const char *name, size_t *octets)
             free(log);
         log = longer;
     }
+    int why = errno;
     if (ferror(file)) {
         free(log);
         log = NULL;
     }
     fclose(file);
+    errno = why;
     *octets = used;
     return log;
 }
@@ -83,11 +86,13 @@ int main(int count, char **arguments)
     if (count == 3 && strcmp(arguments[2], "house") == 0)
         rule = LEFKANU_HOUSE;
     else if (count != 2)
-        return fail("", "usage: read_log LOG [house]");
+        return fail("usage: read_log LOG [house]");
     size_t octets;
     uint8_t *log = read_file(arguments[1], &octets);
-    if (log == NULL)
-        return fail(arguments[1], " cannot be read");
+    if (log == NULL) {
+        fprintf(stderr, "read_log: %s cannot be read: %s\n", arguments[1], strerror(errno));
+        return 1;
+    }
     uint8_t answer = list_records(rule, log, octets);
     free(log);
     if (answer == LEFKANU_NONE)
@@ -95,6 +100,6 @@ int main(int count, char **arguments)
     else
         printf("question %u\n", answer);
     if (fflush(stdout) != 0 || ferror(stdout))
-        return fail("", "standard output cannot be written");
+        return fail("standard output cannot be written");
     return 0;
 }

@@ -6,17 +6,21 @@ use lefkanu::datalink::Result;
 use lefkanu::finder::Frames;
 use lefkanu::log::{Record, RecordKind, Records};
 use lefkanu::CheckRule;
+use std::ffi::OsString;
 use std::io::{self, Write};
+use std::path::Path;
 use std::{env, fs, process};
 
 fn main() {
-    let arguments: Vec<String> = env::args().skip(1).collect();
-    let (name, rule) = match arguments.iter().map(String::as_str).collect::<Vec<_>>()[..] {
-        [name] => (name, CheckRule::AnnexG),
-        [name, "house"] => (name, CheckRule::House),
+    // A file name need not be UTF-8.
+    let arguments: Vec<OsString> = env::args_os().skip(1).collect();
+    let (name, rule) = match &arguments[..] {
+        [name] => (Path::new(name), CheckRule::AnnexG),
+        [name, rule] if rule == "house" => (Path::new(name), CheckRule::House),
         _ => fail("usage: read_log LOG [house]"),
     };
-    let log = fs::read(name).unwrap_or_else(|_| fail(&format!("{name} cannot be read")));
+    let log = fs::read(name)
+        .unwrap_or_else(|error| fail(&format!("{} cannot be read: {error}", name.display())));
     if io::stdout()
         .write_all(listing(rule, &log).as_bytes())
         .is_err()
