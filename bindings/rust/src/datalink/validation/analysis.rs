@@ -32,7 +32,7 @@ pub struct FrameAnalysis {
 pub fn analyze_frame(rule: CheckRule, data: &[u8]) -> Result<FrameAnalysis> {
     let (list, (findings, counts, count)) = with_list(|list| raw::analyze_frame(rule, data, list))?;
     Ok(FrameAnalysis {
-        validation: ValidationResult::from(&findings),
+        validation: ValidationResult::of(&findings),
         statistics: FrameStatistics::from(counts),
         patterns: patterns(&list, count),
     })

@@ -24,8 +24,10 @@ pub struct ValidationResult {
     pub warnings: Vec<ValidationWarning>,
 }
 
-impl From<&Findings> for ValidationResult {
-    fn from(findings: &Findings) -> Self {
+impl ValidationResult {
+    /// The result that a validator of the library answers as numbers. Other numbers may mean nothing: so it is not
+    /// public.
+    pub(super) fn of(findings: &Findings) -> Self {
         let [valid, link, frame_size, errors, warnings, ..] = *findings;
         let entries =
             |from: usize, count: usize| findings[from..][..ENTRY * count].chunks_exact(ENTRY);
@@ -54,20 +56,20 @@ impl From<&Findings> for ValidationResult {
 /// assert_eq!(result.errors, [ValidationError::CrcMismatch { expected: 0x9A, calculated: 0x8C }]);
 /// ```
 pub fn validate_mstp_frame(rule: CheckRule, data: &[u8]) -> ValidationResult {
-    ValidationResult::from(&raw::validate_mstp_frame(rule, data))
+    ValidationResult::of(&raw::validate_mstp_frame(rule, data))
 }
 
 /// Holds octets to what a BVLC message must be.
 pub fn validate_bacnet_ip_frame(data: &[u8]) -> ValidationResult {
-    ValidationResult::from(&raw::validate_bacnet_ip_frame(data))
+    ValidationResult::of(&raw::validate_bacnet_ip_frame(data))
 }
 
 /// Holds octets to what an Ethernet frame must be.
 pub fn validate_ethernet_frame(data: &[u8]) -> ValidationResult {
-    ValidationResult::from(&raw::validate_ethernet_frame(data))
+    ValidationResult::of(&raw::validate_ethernet_frame(data))
 }
 
 /// Tells from the octets which data link they are of, and holds them to it.
 pub fn validate_frame(rule: CheckRule, data: &[u8]) -> ValidationResult {
-    ValidationResult::from(&raw::validate_frame(rule, data))
+    ValidationResult::of(&raw::validate_frame(rule, data))
 }
