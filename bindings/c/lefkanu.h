@@ -23,7 +23,50 @@ extern "C" {
 #define LEFKANU_ANNEX_G 0
 #define LEFKANU_HOUSE 1
 
-/* Answers beside 0 and the numbers of questions. */
+/* The questions in words. docs/QUESTIONS.md says who asks which, and in which order. Octet values and BVLC functions
+   are hexadecimal, all else is decimal.
+
+   MS/TP frames:
+    1  at least 8 octets?
+    2  begins 55 FF?
+    3  type 0 to 7?
+    4  header check right?
+    5  total exactly as the length says?
+    6  data check right?
+    7  at most 501 data octets?
+    8  does the frame fit the lent output?
+
+   BVLC messages:
+   11  at least 4 octets?
+   12  begins 81?
+   13  function 00 to 0C?
+   14  length equals the octets given?
+   15  at least one NPDU octet?
+   16  four octets of output?
+
+   Ethernet frames:
+   21  at least 17 octets?
+   22  82 DC at octets 12 and 13?
+   23  82 82 03 at octets 14 to 16?
+   24  at most 1514 octets?
+   25  does the frame fit the lent output?
+
+   Statistics, patterns, finder, whole reading:
+   31  at most 65,535 octets?
+   32  do all entries fit the lent list?
+   33  place not beyond the end?
+
+   The log:
+   47  end within the log, used count within the buffer?
+   41  three octets left?
+   42  kind 1 to 3?
+   43  length 1 to 1514?
+   44  that many octets before the trailer?
+   46  does the record fit the buffer?
+
+   Answers that are no question:
+   FE  LEFKANU_NONE: the finder's "none", the log's "start reached"
+   FF  LEFKANU_NO_CASE: a number names no rule, frame type or function */
 #define LEFKANU_NONE 0xFE
 #define LEFKANU_NO_CASE 0xFF
 

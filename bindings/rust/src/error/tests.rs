@@ -19,24 +19,59 @@ fn errors_of_questions() {
     }
 }
 
-// A question's row: its number, its words, who asks it, the Rust's error.
-#[test]
-fn words_of_the_page() {
-    let page = include_str!("../../../../docs/QUESTIONS.md");
-    let mut rows = BTreeMap::new();
-    for line in page.lines() {
-        let cells: Vec<&str> = line.split('|').map(str::trim).collect();
-        if let [_, number, words, _, _, _] = cells[..] {
-            if let Ok(question) = number.parse::<u8>() {
-                assert_eq!(rows.insert(question, words), None, "question {question}");
-            }
+const PAGE: &str = include_str!("../../../../docs/QUESTIONS.md");
+
+/// The lines of the documentation of `DataLinkError`.
+fn documentation() -> impl Iterator<Item = &'static str> {
+    let source = include_str!("../error.rs");
+    let (before, _) = source.split_once("\npub enum DataLinkError").unwrap();
+    before.lines().filter_map(|line| line.strip_prefix("/// "))
+}
+
+/// The questions in tables, whose rows begin with number and words: the heading above, the number, the words.
+fn in_tables(
+    lines: impl Iterator<Item = &'static str>,
+    heading: fn(&'static str) -> Option<&'static str>,
+) -> Vec<(&'static str, u8, &'static str)> {
+    let (mut above, mut questions) = ("", vec![]);
+    for line in lines {
+        above = heading(line).unwrap_or(above);
+        let mut cells = line.split('|').skip(1).map(str::trim);
+        if let (Some(Ok(number)), Some(words)) = (cells.next().map(str::parse), cells.next()) {
+            questions.push((above, number, words));
         }
     }
-    assert!(rows.len() >= 28);
+    questions
+}
+
+fn questions_of_the_page() -> Vec<(&'static str, u8, &'static str)> {
+    in_tables(PAGE.lines(), |line| line.strip_prefix("## "))
+}
+
+#[test]
+fn words_of_the_page() {
+    let mut words = BTreeMap::new();
+    for (_, question, text) in questions_of_the_page() {
+        assert_eq!(words.insert(question, text), None, "question {question}");
+    }
+    assert!(words.len() >= 28);
     for question in 0..=0xFF {
-        let words = rows.get(&question).copied();
+        let words = words.get(&question).copied();
         assert_eq!(questions::text(question), words, "question {question}");
     }
+}
+
+#[test]
+fn documentation_in_the_words_of_the_page() {
+    let documented = in_tables(documentation(), |line| line.strip_suffix(':'));
+    assert_eq!(documented, questions_of_the_page());
+    let no_question = |line: &&str| line.starts_with("| F");
+    let answers: Vec<&str> = documentation().filter(no_question).collect();
+    assert_eq!(answers.len(), 2);
+    assert_eq!(
+        answers,
+        PAGE.lines().filter(no_question).collect::<Vec<_>>()
+    );
 }
 
 #[test]
