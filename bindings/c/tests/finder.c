@@ -36,6 +36,8 @@ static void test_find(void)
     find_none(LEFKANU_HOUSE, given(RUN), 0, LEFKANU_NONE);
     begin("find_frame, none in nothing");
     find_none(LEFKANU_ANNEX_G, given(""), 0, LEFKANU_NONE);
+    begin("find_frame, none in an extended frame");
+    find_none(LEFKANU_ANNEX_G, given("55 FF 20 00 00 00 00 0A"), 0, LEFKANU_NONE);
     begin("find_frame, beyond the end");
     find_none(LEFKANU_ANNEX_G, given(RUN), 26, 33);
     begin("find_frame, far beyond the end");

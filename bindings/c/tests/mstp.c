@@ -50,6 +50,7 @@ static void test_reading(void)
     refuse_reading(LEFKANU_ANNEX_G, "54 FF 00 10 05 00 00 8C", 2);
     refuse_reading(LEFKANU_ANNEX_G, "55 FE 00 10 05 00 00 8C", 2);
     refuse_reading(LEFKANU_ANNEX_G, "55 FF 80 00 00 00 00 3F", 3);
+    refuse_reading(LEFKANU_ANNEX_G, "55 FF 20 00 00 00 00 0A", 3);
     refuse_reading(LEFKANU_ANNEX_G, "55 FF 00 11 05 00 00 8C", 4);
     refuse_reading(LEFKANU_HOUSE, "55 FF 00 10 05 00 00 8C", 4);
     refuse_reading(LEFKANU_ANNEX_G, "55 FF 00 10 05 00 00 8C FF", 5);

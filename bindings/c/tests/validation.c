@@ -39,6 +39,8 @@ static void test_mstp_frames(void)
     mstp(LEFKANU_ANNEX_G, given("55 FF 00 10 05 00 00 8C"), RESULT(1, 3, 8));
     begin("validate_mstp_frame, header check");
     mstp(LEFKANU_HOUSE, given("55 FF 00 10 05 00 00 8C"), RESULT(0, 3, 8, 1, 0, 4, 0x8C, 0x9A));
+    begin("validate_mstp_frame, an extended frame");
+    mstp(LEFKANU_ANNEX_G, given("55 FF 20 00 00 00 00 0A"), RESULT(0, 3, 8, 1, 0, 5, 32));
     begin("validate_mstp_frame, too short");
     mstp(LEFKANU_ANNEX_G, given("54"), RESULT(0, 3, 1, 1, 0, 1, 1, 8));
 

@@ -2,16 +2,18 @@
 
 mod common;
 
-use common::{octets, with_zeros};
+use common::{octets, with_zeros, RULES};
 use lefkanu::datalink::bip::{npdu, process_bvlc_message, BvlcFunction, BvlcHeader, BvlcMessage};
 use lefkanu::datalink::ethernet::{self, EthernetFrame};
-use lefkanu::datalink::mstp::{self, decode_header, MstpFrame, MstpFrameType};
+use lefkanu::datalink::mstp::{
+    self, calculate_header_crc, decode_header, MstpFrame, MstpFrameType,
+};
 use lefkanu::datalink::validation::{
     analyze_frame, calculate_frame_statistics, detect_patterns, validate_bacnet_ip_frame,
-    validate_mstp_frame, ConfigurationReason, Pattern, ValidationWarning,
+    validate_mstp_frame, ConfigurationReason, Pattern, ValidationError, ValidationWarning,
 };
 use lefkanu::datalink::DataLinkError::{CrcError, InvalidFrame, Refused};
-use lefkanu::finder::{find_frame, Report};
+use lefkanu::finder::{find_frame, read_frames, Report};
 use lefkanu::CheckRule::{AnnexG, House};
 
 #[test]
@@ -112,6 +114,65 @@ fn types_of_128_or_more() {
         assert_eq!(result.warnings, std::slice::from_ref(&proprietary));
         assert_eq!(MstpFrame::decode(rule, &frame), Err(InvalidFrame(3)));
         assert_eq!(find_frame(rule, &frame, 0), Ok(None));
+    }
+}
+
+#[test]
+fn extended_frames() {
+    let invalid_type = |value| ValidationError::InvalidFrameType { value };
+    for (rule, frame) in [
+        (AnnexG, "55 FF 20 00 00 00 00 0A"),
+        (House, "55 FF 20 00 00 00 00 F6"),
+    ] {
+        let frame = octets(frame);
+        assert_eq!(MstpFrame::decode(rule, &frame), Err(InvalidFrame(3)));
+        let result = validate_mstp_frame(rule, &frame);
+        assert_eq!(result.errors, [invalid_type(32)]);
+        assert_eq!(result.warnings, []);
+        assert_eq!(find_frame(rule, &frame, 0), Ok(None));
+    }
+    // Data 01 22 30 and their CRC-32K, both encoded. The validator takes the last two octets for a data check.
+    for (rule, frame, calculated) in [
+        (
+            AnnexG,
+            "55 FF 21 05 10 00 07 40 51 54 77 65 50 03 2D 03 88",
+            0xB057,
+        ),
+        (
+            House,
+            "55 FF 21 05 10 00 07 BE 51 54 77 65 50 03 2D 03 88",
+            0xD583,
+        ),
+    ] {
+        let frame = octets(frame);
+        assert_eq!(MstpFrame::decode(rule, &frame), Err(InvalidFrame(3)));
+        let crc_mismatch = ValidationError::CrcMismatch {
+            expected: 0x8803,
+            calculated,
+        };
+        let result = validate_mstp_frame(rule, &frame);
+        assert_eq!(result.errors, [invalid_type(33), crc_mismatch]);
+        assert_eq!(find_frame(rule, &frame, 0), Ok(None));
+        // Frames before and after it are found.
+        let token = MstpFrame::token(rule, 16, 5).unwrap().encode(rule).unwrap();
+        let run = [&token[..], &frame, &token].concat();
+        let reports = [0, 25].map(|place| Report { place, count: 8 });
+        assert_eq!(read_frames(rule, &run), Ok(reports.to_vec()));
+    }
+}
+
+#[test]
+fn types_8_to_127() {
+    for rule in RULES {
+        for value in 8..=127 {
+            let header = [value, 0, 0, 0, 0];
+            let check = calculate_header_crc(rule, &header);
+            let frame = [&[0x55, 0xFF], &header[..], &[check]].concat();
+            assert_eq!(MstpFrame::decode(rule, &frame), Err(InvalidFrame(3)));
+            let errors = validate_mstp_frame(rule, &frame).errors;
+            assert_eq!(errors, [ValidationError::InvalidFrameType { value }]);
+            assert_eq!(find_frame(rule, &frame, 0), Ok(None));
+        }
     }
 }
 
