@@ -256,6 +256,113 @@ fn want_of_room() {
     );
 }
 
+/// A frame with data 01 22 30, as it was made and with one change.
+fn changed(change: impl Fn(&mut MstpFrame)) -> MstpFrame {
+    let answer = MstpFrameType::BacnetDataNotExpectingReply;
+    let mut frame = MstpFrame::new(House, answer, 5, 16, vec![0x01, 0x22, 0x30]).unwrap();
+    change(&mut frame);
+    frame
+}
+
+// Beside each change: what bacnet-rs writes, and why that is refused.
+#[test]
+fn fields_that_encode_ignores() {
+    for (frame, damaged, refusal) in [
+        (
+            changed(|frame| frame.header_crc = 0x00),
+            "55 FF 06 05 10 00 03 00 01 22 30 C7 4B",
+            CrcError(4),
+        ),
+        (
+            changed(|frame| frame.data_length = 2),
+            "55 FF 06 05 10 00 02 E0 01 22 30 C7 4B",
+            CrcError(4),
+        ),
+        (
+            changed(|frame| frame.data_crc = Some(0x0000)),
+            "55 FF 06 05 10 00 03 E0 01 22 30 00 00",
+            CrcError(6),
+        ),
+        (
+            changed(|frame| frame.data_crc = None),
+            "55 FF 06 05 10 00 03 E0 01 22 30",
+            InvalidFrame(5),
+        ),
+    ] {
+        let good = changed(|_| ());
+        assert_ne!(frame, good);
+        for rule in RULES {
+            assert_eq!(frame.encode(rule), good.encode(rule));
+        }
+        assert_eq!(MstpFrame::decode(House, &octets(damaged)), Err(refusal));
+    }
+
+    let mut header = BvlcHeader::new(BvlcFunction::OriginalUnicastNpdu, 4);
+    header.bvlc_type = 0x82;
+    assert_eq!(header.encode(), octets("81 0A 00 04"));
+    let mut out = [0; 4];
+    assert_eq!(header.encode_into(&mut out), Ok(4));
+    assert_eq!(out.to_vec(), octets("81 0A 00 04"));
+    let damaged = octets("82 0A 00 04");
+    assert_eq!(BvlcHeader::decode(&damaged), Err(InvalidFrame(12)));
+
+    let good = EthernetFrame::new([1; 6], [2; 6], vec![3]);
+    let mut other_type = good.clone();
+    other_type.ether_type = 0x0800;
+    let mut other_llc = good.clone();
+    other_llc.llc_header = [0xAA, 0xAA, 0x03];
+    for (frame, damaged, refusal) in [
+        (other_type, "08 00 82 82 03", InvalidFrame(22)),
+        (other_llc, "82 DC AA AA 03", InvalidFrame(23)),
+    ] {
+        assert_eq!(frame.encode(), good.encode());
+        let mut octets_written = good.encode().unwrap();
+        octets_written[12..17].copy_from_slice(&octets(damaged));
+        assert_eq!(EthernetFrame::decode(&octets_written), Err(refusal));
+    }
+}
+
+// Beside each change: what bacnet-rs writes, with the old length and checks, and why that is refused.
+#[test]
+fn fields_that_encode_calculates_from() {
+    for (frame, written, damaged, refusal) in [
+        (
+            changed(|frame| frame.frame_type = MstpFrameType::TestRequest),
+            "55 FF 03 05 10 00 03 E4 01 22 30 C7 4B",
+            "55 FF 03 05 10 00 03 E0 01 22 30 C7 4B",
+            CrcError(4),
+        ),
+        (
+            changed(|frame| frame.destination = 6),
+            "55 FF 06 06 10 00 03 83 01 22 30 C7 4B",
+            "55 FF 06 06 10 00 03 E0 01 22 30 C7 4B",
+            CrcError(4),
+        ),
+        (
+            changed(|frame| frame.source = 17),
+            "55 FF 06 05 11 00 03 C6 01 22 30 C7 4B",
+            "55 FF 06 05 11 00 03 E0 01 22 30 C7 4B",
+            CrcError(4),
+        ),
+        (
+            changed(|frame| frame.data = vec![0x01, 0x22, 0x31]),
+            "55 FF 06 05 10 00 03 E0 01 22 31 06 8B",
+            "55 FF 06 05 10 00 03 E0 01 22 31 C7 4B",
+            CrcError(6),
+        ),
+        (
+            changed(|frame| frame.data = vec![]),
+            "55 FF 06 05 10 00 00 90",
+            "55 FF 06 05 10 00 03 E0",
+            InvalidFrame(5),
+        ),
+    ] {
+        assert_eq!(frame.encode(House), Ok(octets(written)));
+        assert!(MstpFrame::decode(House, &octets(written)).is_ok());
+        assert_eq!(MstpFrame::decode(House, &octets(damaged)), Err(refusal));
+    }
+}
+
 #[test]
 fn the_time_to_live_is_answered() {
     let message = octets("81 05 00 06 00 3C");

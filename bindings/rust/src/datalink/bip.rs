@@ -32,7 +32,7 @@ impl TryFrom<u8> for BvlcFunction {
 /// The four octets in front of a message.
 #[derive(Debug, Clone, Copy, PartialEq, Eq)]
 pub struct BvlcHeader {
-    /// 81 for BACnet/IP.
+    /// 81 in every header that is made or read here; `encode` ignores it.
     pub bvlc_type: u8,
     /// Its function.
     pub function: BvlcFunction,

@@ -36,9 +36,9 @@ pub struct EthernetFrame {
     pub dest_mac: [u8; 6],
     /// The address it comes from.
     pub src_mac: [u8; 6],
-    /// 82 DC in every frame that is made or read here.
+    /// 82 DC in every frame that is made or read here; `encode` ignores it.
     pub ether_type: u16,
-    /// 82 82 03 in every frame that is made or read here.
+    /// 82 82 03 in every frame that is made or read here; `encode` ignores it.
     pub llc_header: [u8; 3],
     /// Its payload; of a frame that was read, with the padding.
     pub payload: Vec<u8>,

@@ -43,13 +43,13 @@ pub struct MstpFrame {
     pub destination: u8,
     /// The station it comes from.
     pub source: u8,
-    /// How many data octets it had when it was made or read.
+    /// How many data octets it had when it was made or read; `encode` ignores it.
     pub data_length: u16,
-    /// Its header check when it was made or read.
+    /// Its header check when it was made or read; `encode` ignores it.
     pub header_crc: u8,
     /// Its data.
     pub data: Vec<u8>,
-    /// Its data check when it was made or read; none where it has no data.
+    /// Its data check when it was made or read, none where it had no data; `encode` ignores it.
     pub data_crc: Option<u16>,
 }
 
