@@ -2,7 +2,8 @@
 //!
 //! Names and types are those of bacnet-rs, so that `use bacnet_rs::datalink::mstp::..` becomes
 //! `use lefkanu::datalink::mstp::..`; the answers come from the proved library liblefkanu.a. Functions that depend on
-//! check octets take a [`CheckRule`] first, and every error has the number of the first question that failed.
+//! check octets take a [`CheckRule`] first, and every error has the number of the first question that failed:
+//! [`DataLinkError`](datalink::DataLinkError) has them all in words.
 //!
 //! ```
 //! use lefkanu::datalink::mstp::MstpFrame;

@@ -25,8 +25,12 @@ pub struct ValidationResult {
 }
 
 impl ValidationResult {
-    /// The result that a validator of the library answers as numbers. Other numbers may mean nothing: so it is not
-    /// public.
+    /// The result that a validator of the library answers as numbers. Other numbers may mean nothing, so callers have no
+    /// way to give any:
+    ///
+    /// ```compile_fail
+    /// lefkanu::datalink::validation::ValidationResult::from(&[9; 32]);
+    /// ```
     pub(super) fn of(findings: &Findings) -> Self {
         let [valid, link, frame_size, errors, warnings, ..] = *findings;
         let entries =
