@@ -44,6 +44,9 @@ REST = MOST_IN_ALL - len(written(FULL)) - TRAILER
 FULL_LOG = record(BUS, (TOKEN * 100)[:REST]) + written(FULL)
 assert len(FULL_LOG) == MOST_IN_ALL
 
+# How many octets the program asks for at a time: all that it has room for, a few, one; none, which counts as one.
+PIECES = MOST_IN_ALL + 1, 5, 1, 0
+
 
 def sparks(chance):
     """Frames with sparks between them, before and behind them; a broken header that says many octets; a frame cut."""
@@ -76,4 +79,6 @@ def named(dryer, chance):
         "length-low-octet-first": TOKEN + b"\x01\x08\x00" + EXAMPLE,
         "full": FULL_LOG,
         "long": b"\x00" + FULL_LOG,
+        "one-octet": b"\x08",
+        "two-octets": b"\x00\x08",
     }

@@ -3,6 +3,7 @@
 use libc::STDERR_FILENO;
 use libc::STDIN_FILENO;
 use log_input::InputListed;
+use log_input::ROOM;
 
 // Says why there is no listing.
 fn complain(message: &[u8]) {
@@ -10,8 +11,8 @@ fn complain(message: &[u8]) {
 }
 
 fn main() {
-    match log_input::list_input(STDIN_FILENO) {
-        InputListed::Printed(_) => {}
+    match log_input::list_input(STDIN_FILENO, ROOM) {
+        InputListed::Printed(_, _) => {}
         InputListed::NotRead => complain(b"buslog: standard input cannot be read\n"),
         InputListed::NotWritten => complain(b"buslog: standard output cannot be written\n"),
     }

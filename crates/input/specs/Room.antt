@@ -1,10 +1,12 @@
 -- What holds of a reading's answer, whatever comes.
 -- Assumes nothing.
-use Prim.Native.Nat.{ℕ, _≤_}
+use Prim.Native.Nat.{ℕ, _<_}
+use mathlib.Core.Path.{_≡_}
 use Rattle.input.specs.declared.InputRead.{InputRead}
-use Rattle.input.specs.declared.InputRead.the-variants.{Count, Failed}
+use Rattle.input.specs.declared.InputRead.the-variants.{Full, Ended, Failed}
 
--- an answer that is a count is at most the room
-abbrev pub Fits : InputRead → ℕ → Type 0
-Fits (Count n) room = n ≤ room
-Fits Failed room = Unit {0}
+-- full: as many octets as there is room for; ended: fewer
+abbrev pub Reads : InputRead → ℕ → Type 0
+Reads (Full n) room = n ≡ room
+Reads (Ended n) room = n < room
+Reads Failed room = Unit {0}

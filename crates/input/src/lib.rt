@@ -1,29 +1,74 @@
 // Reading a descriptor to its end.
+ghost use Prim.Native.Nat.{_<_};
+ghost use mathlib.Core.Path.{_≡_};
 ghost use lib.ListN.{length};
-ghost use Rattle.input.specs.Room.{Fits};
+ghost use Rattle.input.specs.Answer.{answered, mostAsked, Came};
+ghost use Rattle.input.specs.Room.{Reads};
 
-// What reading answers: how many octets were read, or that a read failed.
+// What one `read` says: that it failed, that the input has ended, or that so many more octets came.
+pub enum ReadAnswer {
+    Failed,
+    End,
+    More(usize),
+}
+
+// What reading to the end answers: the room is full, the input ended before it was, or a read failed; and how many octets
+// there are.
 pub enum InputRead {
-    Count(usize),
+    Full(usize),
+    Ended(usize),
     Failed,
 }
 
-// Reads from a descriptor to the front of `out` until the input ends or `out` is full, however many pieces it comes in,
-// and answers how many octets there are; a read that fails is no end. Which octets come, no contract can say.
-pub fn read_to_end(fd: i32, out: &mut [u8]) -> InputRead
-    ensures { λ r. ⌜ Fits r (length (now (out .exit))) ⌝ }
+// What the number that a `read` answered says.
+pub fn read_answer(got: isize) -> ReadAnswer
+    ensures { λ r. ⌜ r ≡ answered got ⌝ }
+{
+    if got < 0 {
+        return ReadAnswer::Failed;
+    }
+    if got == 0 {
+        return ReadAnswer::End;
+    }
+    ReadAnswer::More(got as usize)
+}
+
+// How many octets a `read` asks for: a piece, where 0 counts as 1, and no more than there is room for.
+fn most_asked(piece: usize, room: usize) -> usize
+    ensures { λ r. ⌜ r ≡ mostAsked piece room ⌝ }
+{
+    if room <= piece {
+        return room;
+    }
+    if piece == 0 {
+        return 1;
+    }
+    piece
+}
+
+// One `read` of at most a piece, to the front of a room that is not empty.
+fn read_piece(fd: i32, piece: usize, out: &mut [u8]) -> ReadAnswer
+    requires { ⌜ 0 < length (now out) ⌝ }
+    ensures { λ r. ⌜ Came r (mostAsked piece (length (now (out .entry)))) ⌝ }
+{
+    let room = out.len();
+    let most = most_asked(piece, room);
+    read_answer(libc::read(fd, &mut out[..most]))
+}
+
+// Reads from a descriptor to the front of `out` until the input ends, `out` is full or a read fails, and says which. Each
+// read asks for at most `piece` octets, where 0 counts as 1. Which octets come, and when a read fails or says that the
+// input has ended, no contract can say.
+pub fn read_to_end(fd: i32, piece: usize, out: &mut [u8]) -> InputRead
+    ensures { λ r. ⌜ Reads r (length (now (out .exit))) ⌝ }
 {
     let mut n = 0;
     while n < out.len() {
-        let got = libc::read(fd, &mut out[n..]);
-        if got < 0 {
-            return InputRead::Failed;
+        match read_piece(fd, piece, &mut out[n..]) {
+            ReadAnswer::Failed => return InputRead::Failed,
+            ReadAnswer::End => return InputRead::Ended(n),
+            ReadAnswer::More(more) => n += more,
         }
-        let more = io::count(got, &out[n..]);
-        if more == 0 {
-            return InputRead::Count(n);
-        }
-        n += more;
     }
-    InputRead::Count(n)
+    InputRead::Full(n)
 }

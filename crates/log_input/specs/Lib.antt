@@ -1,1 +1,1 @@
-pub mod Printed
+pub mod Listed

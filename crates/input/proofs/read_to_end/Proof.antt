@@ -1,71 +1,42 @@
--- `input::read_to_end` meets its contract: each turn adds at least an octet, and never more than there is room for.
+-- `input::read_to_end` meets its contract: after the loop the room is full, and each turn adds at least an octet and never
+-- more than there is room for.
 -- Assumes nothing.
-use Prim.Native.Nat.{_≤_, _-_}
+use Prim.Native.Nat.{_≤_, _<_, _-_}
 use mathlib.Core.Path.{_≡_}
+use native.Mathlib.Nat.{le-antisymm}
+use native.Mathlib.Omega.{arith}
 use borrow.Author.Needs.{needs}
-use lib.ListN.{length}
+use lib.ListN.{length, drop, length-take}
+use Rattle.input.proofs.Answers.{within}
 use Rattle.input.proofs.read_to_end.Statement.{statement}
 use Rattle.input.proofs.read_to_end.Tie as tie
 
 abbrev Inv-loop : tie.InvT-loop
-Inv-loop fd out₀ n₀ out n = (n ≤ length out) × (length out ≡ length out₀)
+Inv-loop fd piece out₀ n₀ out n = (n ≤ length out) × (length out ≡ length out₀)
 
 abbrev μ-loop : tie.MeasureT-loop
-μ-loop fd out₀ n₀ out n = length out - n
+μ-loop fd piece out₀ n₀ out n = length out - n
 
-loop-holds : tie.Need-loop-holds Inv-loop μ-loop
-loop-holds c = search needs
+full : tie.Need-returns-3 Inv-loop μ-loop
+full c = le-antisymm (c .before .loop .inv .0) (c .loop-test .left)
 
-sub-read : tie.Need-sub-read Inv-loop μ-loop
-sub-read c = search needs
+abbrev at : tie.After-more Inv-loop μ-loop → tie.At-loop Inv-loop μ-loop
+at c = c .before .before .before .before .before .before .before
 
-part-read-start : tie.Need-part-read-start Inv-loop μ-loop
-part-read-start c = search needs
-
-part-read-end : tie.Need-part-read-end Inv-loop μ-loop
-part-read-end c = search needs
-
-read-requires : tie.Need-read-requires Inv-loop μ-loop
-read-requires c κs = search needs
-
-same-length : tie.Need-same-length Inv-loop μ-loop
-same-length c = search needs
-
-returns : tie.Need-returns Inv-loop μ-loop
-returns c = search needs
-
-sub-count : tie.Need-sub-count Inv-loop μ-loop
-sub-count c = search needs
-
-part-count-start : tie.Need-part-count-start Inv-loop μ-loop
-part-count-start c = search needs
-
-part-count-end : tie.Need-part-count-end Inv-loop μ-loop
-part-count-end c = search needs
-
-count-requires : tie.Need-count-requires Inv-loop μ-loop
-count-requires c κs = search needs
-
-same-length-2 : tie.Need-same-length-2 Inv-loop μ-loop
-same-length-2 c = search needs
-
-returns-2 : tie.Need-returns-2 Inv-loop μ-loop
-returns-2 c = search needs
+-- what comes in a turn
+more : (c : tie.After-more Inv-loop μ-loop) → (0 < c .more .given .0 .0) × (c .more .given .0 .0 ≤ length (at c .loop .out) - at c .loop .n)
+more c =
+    let came = within _ _ _ _ (c .more .given .1) (c .before .before .before .before .read-piece .ensures) in
+    (came .0, omega (arith, came .1, length-take (length (at c .loop .out) - at c .loop .n) (drop (at c .loop .n) (at c .loop .out))))
 
 add-n : tie.Need-add-n Inv-loop μ-loop
-add-n c = search needs
+add-n c = omega (arith, more (c .before))
 
 loop-less : tie.Need-loop-less Inv-loop μ-loop
-loop-less c = search needs
+loop-less c = omega (arith, more (c .before))
 
 loop-again : tie.Need-loop-again Inv-loop μ-loop
-loop-again c = search needs
-
-same-length-3 : tie.Need-same-length-3 Inv-loop μ-loop
-same-length-3 c = search needs
-
-returns-3 : tie.Need-returns-3 Inv-loop μ-loop
-returns-3 c = search needs
+loop-again c = (omega (arith, more (c .before)), search needs)
 
 pub read-to-end-spec : {M : Type 1} → statement M
 read-to-end-spec =
@@ -73,21 +44,12 @@ read-to-end-spec =
     (tie.spec
     Inv-loop
     μ-loop
-    loop-holds
-    sub-read
-    part-read-start
-    part-read-end
-    read-requires
-    same-length
-    returns
-    sub-count
-    part-count-start
-    part-count-end
-    count-requires
-    same-length-2
-    returns-2
+    (λ c. search needs) (λ c. search needs) (λ c. search needs) (λ c. search needs) (λ c κs. search needs)
+    (λ c. search needs) (λ c. search needs) (λ c. search needs)
+    (λ c. search needs) (λ c. search needs) (λ c. search needs)
+    (λ c. search needs)
     add-n
     loop-less
     loop-again
-    same-length-3
-    returns-3)
+    (λ c. search needs)
+    full)
