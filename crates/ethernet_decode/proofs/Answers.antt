@@ -1,12 +1,12 @@
 -- What reading and validating answer, with what each promises.
 -- Assumes nothing.
-use mathlib.Core.Path.{_≡_, sym, ap, _∙_}
+use mathlib.Core.Path.{_≡_, refl, sym, ap, ap₂, _∙_}
 use mathlib.Core.List.{List, []}
 use Prim.Native.Nat.{ℕ, _-_, _≤_}
 use native.Mathlib.Omega.{arith}
 use borrow.Author.Tests.{le-leb, leb-true}
 use lib.ListN.{length, take, drop, length-drop}
-use lib.Seq.{take-all}
+use lib.Seq.{take-all, length-take-le}
 use Rattle.octets.specs.Question.{firstNo, answered}
 use Rattle.octets.proofs.Parts.{Octets}
 use Rattle.octets.proofs.Questions.{all-yes, none-fails, answered-value, answered-part, is-value, refusal, acceptance}
@@ -16,7 +16,7 @@ use Rattle.octets.specs.declared.AcceptResult.the-variants.{Accepted as Yes}
 use Rattle.ethernet_decode.specs.declared.EthernetDecoded.{EthernetDecoded}
 use Rattle.ethernet_decode.specs.Frame.{bacnetType, unpadded}
 use Rattle.ethernet_decode.specs.Decode.{destinationOf, sourceOf, headerQuestions, decodeQuestions, decodeQuestion, accepted, refused, decode, payload, validateQuestions, validate}
-use Rattle.ethernet_decode.specs.RoundTrip.{WritesBack, PayloadOf, Agrees}
+use Rattle.ethernet_decode.specs.RoundTrip.{LaidOut, WritesBack, PayloadOf, Agrees}
 use Rattle.ethernet_decode.proofs.Frames.{Accepted, facts, laid-out, payload-back}
 
 -- an answer accepts exactly where no question fails
@@ -39,7 +39,10 @@ module _ (s : List ℕ) where
   Payload part = (part ≡ payload s) × PayloadOf s part
 
   payload-of : {part : List ℕ} → part ≡ payload s → Payload part
-  payload-of e = (e, λ d f body hd hf is. e ∙ ap payload is ∙ payload-back d f body hd hf)
+  payload-of e = (
+    e,
+    λ d f body laid. e ∙ ap payload (laid .octets) ∙ payload-back d f body (laid .destinationSize) (laid .sourceSize),
+  )
 
   module _ {q : ℕ} (asked : q ≡ decodeQuestion s) where
     pub decode-refused : (q ≡ 0 → ⊥) → Decoded (refused q)
@@ -65,13 +68,29 @@ module _ (s : List ℕ) where
     decode-accepted passes octets {d} {f} ed ef =
         (rw (ed, ef) (acceptance refused value asked passes), λ e. whole)
       where
-        whole : s ≡ unpadded bacnetType d f (payload s)
-        whole = rw (ed, ef, ← (acceptance (λ _. []) (drop 17 s) asked passes)) (laid-out s octets (passed passes))
+        a : Accepted s
+        a = passed passes
+
+        whole : LaidOut s d f (payload s)
+        whole = record {
+          destinationSize = rw ed (length-take-le 6 (drop 0 s) (omega (arith, a .long, length-drop 0 s)));
+          sourceSize = rw ef (length-take-le 6 (drop 6 s) (omega (arith, a .long, length-drop 6 s)));
+          octets = rw (ed, ef, ← (acceptance (λ _. []) (drop 17 s) asked passes)) (laid-out s octets a);
+        }
 
   -- what reading answers beside the addresses
   result-of : decode s .result ≡ answered Refused (decodeQuestion s) Yes
   unfolding decode
   result-of = answered-part (λ (d : EthernetDecoded). d .result) refused value (decodeQuestion s)
+
+  -- octets that reading gives these addresses of are the frame without padding
+  pub read-is : Octets s → {d f : List ℕ} → decode s ≡ accepted d f → s ≡ unpadded bacnetType d f (payload s)
+  read-is octets {d} {f} told =
+      let none = yes-none (decodeQuestion s) (sym result-of ∙ ap (λ (r : EthernetDecoded). r .result) told) in
+      let own = decode-accepted refl none octets refl refl in
+      let same : value ≡ accepted d f = own .0 ∙ told in
+      own .1 refl .octets
+      ∙ ap₂ (λ (a b : List ℕ). unpadded bacnetType a b (payload s)) (ap (λ (r : EthernetDecoded). r .«dest_mac») same) (ap (λ (r : EthernetDecoded). r .«src_mac») same)
 
   -- the validator's questions are those of reading and the size
   of-reading : firstNo (validateQuestions s) ≡ 0 → (decodeQuestion s ≡ 0) × (length s ≤ 1514)

@@ -1,2 +1,4 @@
+pub mod Anew
 pub mod Encodes
 pub mod Outputs
+pub mod Questions

@@ -7,8 +7,18 @@ use native.Mathlib.Omega.{arith}
 use lib.ListN.{length, take, drop, replicate, length-append, length-replicate}
 use lib.Seq.{take-all}
 use Rattle.octets.specs.Put.{Put, putPlace, putOutput}
-use Rattle.octets.proofs.Puts.{put-call, put-calls, put-more, put-is, room-front, room-more}
-use Rattle.ethernet_decode.specs.Frame.{bacnetType, headerOctets, padding, paddedPayload}
+use Rattle.octets.proofs.Puts.{put-call, put-calls, put-more, room-front, room-more}
+use Rattle.ethernet_decode.specs.Frame.{bacnetType, headerOctets, unpadded}
+use Rattle.ethernet_encode.specs.Frame.{padding, paddedPayload}
+
+-- the size of a header, and of a frame without padding
+module _ (d e body : List ℕ) (hd : length d ≡ 6) (he : length e ≡ 6) where
+  pub header-size : length (headerOctets bacnetType d e) ≡ 17
+  header-size = simp length-append (omega arith)
+
+  pub unpadded-size : length (unpadded bacnetType d e body) ≡ 17 + length body
+  unfolding unpadded
+  unpadded-size = length-append (headerOctets bacnetType d e) body ∙ ap (λ (k : ℕ). k + length body) header-size
 
 -- three calls of `put` are a header
 pub header-put : (d e behind out : List ℕ) {a b n : ℕ} {l k after : List ℕ}

@@ -7,7 +7,8 @@ use lib.ListN.{length}
 use Rattle.octets.specs.Question.{Question, ask, firstNo}
 use Rattle.octets.specs.Output.{writeAnswer, writeOutput}
 use Rattle.octets.specs.declared.CountResult.{CountResult}
-use Rattle.ethernet_decode.specs.Frame.{bacnetType, ethernetFrame}
+use Rattle.ethernet_decode.specs.Frame.{bacnetType}
+use Rattle.ethernet_encode.specs.Frame.{ethernetFrame}
 
 -- the questions in document 01's order: of the frame's octets and the lent output
 unfoldable pub encodeQuestions : List ℕ → List ℕ → List Question

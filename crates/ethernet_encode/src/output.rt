@@ -8,7 +8,8 @@ use ethernet_decode::MIN_ETHERNET_FRAME_SIZE;
 ghost use Prim.Native.Nat.{_+_, _≤_};
 ghost use lib.ListN.{length};
 ghost use Rattle.octets.specs.Put.{Put};
-ghost use Rattle.ethernet_decode.specs.Frame.{bacnetType, headerOctets, paddedPayload};
+ghost use Rattle.ethernet_decode.specs.Frame.{bacnetType, headerOctets};
+ghost use Rattle.ethernet_encode.specs.Frame.{paddedPayload};
 
 // The octets of payload and padding in a frame of the least size.
 pub(crate) const LEAST_PAYLOAD: usize = MIN_ETHERNET_FRAME_SIZE - BACNET_ETHERNET_HEADER_SIZE;

@@ -15,17 +15,17 @@ destination-six c = omega (arith, c .good)
 source-six : (c : tie.Start) → length (c .args .src-mac) ≡ 6
 source-six c = omega (arith, c .good)
 
-returns : tie.Need-returns
-returns c =
-    let a = c .before .before .before in
-    too-long _ _ _ _ (destination-six a) (source-six a) (c .if1 .taken)
-
 returns-2 : tie.Need-returns-2
 returns-2 c =
     let asked = c .before in
     let a = asked .before .before .before .before in
     no-room _ _ _ _ (destination-six a) (source-six a) (asked .before .if1 .left) (asked .frame-size .ensures)
     (c .if2 .taken)
+
+returns : tie.Need-returns
+returns c =
+    let a = c .before .before .before in
+    too-long _ _ _ _ (destination-six a) (source-six a) (c .if1 .taken)
 
 put-payload-requires : tie.Need-put-payload-requires
 put-payload-requires c κs =
