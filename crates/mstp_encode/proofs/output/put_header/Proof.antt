@@ -11,7 +11,7 @@ returns c =
     let start = c .before .before .before .before .before .before .before .before in
     let a = start .args in
     let put = c .before .before .put in
-    put-is (header-is (a .rule) (a .frame-type) (a .destination) (a .source) (a .n) (c .before .before .before .before .before .before .to-u8 .ensures) (c .before .before .before .before .before .calculate-header-crc .ensures .0))
+    put-is (header-is (a .rule) (a .frame-type) (a .destination) (a .source) (a .n) (c .before .before .before .before .before .before .to-u8 .ensures .0) (c .before .before .before .before .before .calculate-header-crc .ensures .0))
     (put-call _ (a .out .now) 0 (start .pre) (put .ensures .0) (put .ensures .1))
 
 pub put-header-spec : {M : Type 1} → statement M
