@@ -1,6 +1,6 @@
 -- Functions and their numbers are each other's inverse.
 -- Assumes nothing.
-use mathlib.Core.Path.{_≡_, refl}
+use mathlib.Core.Path.{_≡_, refl, sym, ap, _∙_}
 use mathlib.Core.Bool.{true}
 use Prim.Native.Nat.{ℕ, _≤_, _<_}
 use native.Mathlib.Omega.{arith}
@@ -42,10 +42,16 @@ pub function-last : (n : ℕ) → 0x0C ≤ n → SecureBvll ≡ functionOf n
 unfolding functionOf
 function-last n h = last-from functions SecureBvll 12 n refl h
 
-pub from-known : (n : ℕ) {f : BvlcFunction} → n ≤ 0x0C → f ≡ functionOf n → Known f ≡ tryFrom n
+-- what `try_from` answers, with the number that its answer has
+pub from-known : (n : ℕ) {f : BvlcFunction} → n ≤ 0x0C → f ≡ functionOf n → (Known f ≡ tryFrom n) × (functionNumber f ≡ n)
 unfolding tryFrom
-from-known n h e = rw (le-leb n 0x0C h, e)
+from-known n h e = (rw (le-leb n 0x0C h, e), ap functionNumber e ∙ number-back n h)
 
 pub from-unknown : (n : ℕ) → 0x0C < n → Unknown ≡ tryFrom n
 unfolding tryFrom
 from-unknown n h = rw (lt-leb n 0x0C h)
+
+-- what `to_u8` answers, with the function that its answer names
+pub numbered : (f : BvlcFunction) {g : BvlcFunction} → f ≡ g → (functionNumber g ≡ functionNumber f) × (tryFrom (functionNumber g) ≡ Known f)
+unfolding tryFrom
+numbered f {g} e = let back = function-back g in (ap functionNumber (sym e), rw (back .0, back .1, e))

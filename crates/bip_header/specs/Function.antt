@@ -1,6 +1,7 @@
 -- The functions of BVLC messages and their numbers.
 -- Assumes nothing.
 use Prim.Native.Nat.{ℕ}
+use mathlib.Core.Path.{_≡_}
 use mathlib.Core.Bool.{cond}
 use mathlib.Core.List.{List, [], _∷_}
 use lib.Dec.{leb}
@@ -59,3 +60,8 @@ functionOf n = getD functions n SecureBvll
 -- the function that a number names, if it names one
 unfoldable pub tryFrom : ℕ → FunctionRead
 tryFrom n = cond (leb n 0x0C) (Known (functionOf n)) Unknown
+
+-- where a number names a function, it is that function's number
+abbrev pub NumberBack : ℕ → FunctionRead → Type 0
+NumberBack n (Known f) = functionNumber f ≡ n
+NumberBack n Unknown = Unit {0}

@@ -1,6 +1,6 @@
 // The functions of BVLC messages and their numbers.
 ghost use mathlib.Core.Path.{_≡_};
-ghost use Rattle.bip_header.specs.Function.{functionNumber, functionOf, tryFrom};
+ghost use Rattle.bip_header.specs.Function.{functionNumber, functionOf, tryFrom, NumberBack};
 
 // The largest number of a function.
 pub(crate) const LAST_FUNCTION: u8 = 0x0C;
@@ -29,9 +29,10 @@ pub enum FunctionRead {
 }
 
 impl BvlcFunction {
-    // The function that a number names, if it names one.
+    // The function that a number names, if it names one: `to_u8` of it is the number.
     pub fn try_from(value: u8) -> FunctionRead
         ensures { λ r. ⌜ r ≡ tryFrom value ⌝ }
+        ensures back { λ r. ⌜ NumberBack value r ⌝ }
     {
         if LAST_FUNCTION < value {
             return FunctionRead::Unknown;
@@ -39,9 +40,10 @@ impl BvlcFunction {
         FunctionRead::Known(function_of(value))
     }
 
-    // The number of a function.
+    // The number of a function: `try_from` of it is the function.
     pub fn to_u8(self) -> u8
         ensures { λ r. ⌜ r ≡ functionNumber self ⌝ }
+        ensures back { λ r. ⌜ tryFrom r ≡ FunctionRead.Known self ⌝ }
     {
         match self {
             BvlcFunction::Result => 0x00,

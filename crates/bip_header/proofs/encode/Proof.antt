@@ -11,7 +11,7 @@ returns c = no-room _ _ _ (c .if1 .taken)
 returns-2 : tie.Need-returns-2
 returns-2 c =
     let p = c .before .before .before in
-    written _ _ _ (p .before .before .before .if1 .left) (p .before .before .to-u8 .ensures)
+    written _ _ _ (p .before .before .before .if1 .left) (p .before .before .to-u8 .ensures .0)
     (c .before .before .copy .ensures .0) (c .before .before .copy .ensures .1)
 
 pub encode-spec : {M : Type 1} → statement M

@@ -10,7 +10,7 @@ returns : tie.Need-returns
 returns c =
     let told = c .before .before .before in
     header-accepted _ (sym (told .before .before .before .decode .ensures .0) ∙ told .before .header .given .1)
-    (c .before .message-of .ensures ∙ rw (c .before .before .to-u8 .ensures)) (c .behind-header .ensures)
+    (c .before .message-of .ensures ∙ rw (c .before .before .to-u8 .ensures .0)) (c .behind-header .ensures)
 
 returns-2 : tie.Need-returns-2
 returns-2 c = header-refused _ (sym (c .before .before .before .decode .ensures .0) ∙ c .before .question .given .1)

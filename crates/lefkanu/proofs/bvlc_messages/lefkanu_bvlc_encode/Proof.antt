@@ -12,7 +12,7 @@ use Rattle.lefkanu.proofs.bvlc_messages.lefkanu_bvlc_encode.Tie as tie
 
 returns : tie.Need-returns
 returns c =
-    let named = function-named _ _ (sym (c .before .before .before .before .before .before .before .before .before .try-from .ensures) ∙ c .before .before .before .before .before .before .before .known .given .1) in
+    let named = function-named _ _ (sym (c .before .before .before .before .before .before .before .before .before .try-from .ensures .0) ∙ c .before .before .before .before .before .before .before .known .given .1) in
     let answer = c .before .before .before .before .encode .ensures in (
       c .tell-count .ensures .0 ∙ told _ functionOf _ (λ f. encodeAnswer f _ _) countNumber _ (named .0) (named .1) (answer .0),
       (
@@ -23,7 +23,7 @@ returns c =
 
 returns-2 : tie.Need-returns-2
 returns-2 c =
-    let none = no-function _ (sym (c .before .before .try-from .ensures) ∙ c .enum-told .given .1) in
+    let none = no-function _ (sym (c .before .before .try-from .ensures .0) ∙ c .enum-told .given .1) in
     (no-case _ functionOf _ _ _ none, (no-case _ functionOf _ _ _ none, no-case _ functionOf _ _ _ none))
 
 pub lefkanu-bvlc-encode-spec : {M : Type 1} → statement M

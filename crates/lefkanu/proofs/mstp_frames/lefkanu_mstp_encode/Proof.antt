@@ -20,7 +20,7 @@ returns-2 : tie.Need-returns-2
 returns-2 c =
     let low = c .before .before .before .before .before .before .before .before .before .before .before .if1 .left in
     let rule = c .before .before .before .before .before .before .rule-of .ensures in
-    let named = type-named _ _ (sym (c .before .before .before .before .before .before .before .before .before .before .from-u8 .ensures) ∙ c .before .before .before .before .before .before .before .before .known .given .1) in
+    let named = type-named _ _ (sym (c .before .before .before .before .before .before .before .before .before .before .from-u8 .ensures .0) ∙ c .before .before .before .before .before .before .before .before .known .given .1) in
     let answer = c .before .before .before .before .encode .ensures in (
       c .tell-count .ensures .0
           ∙ told _ typeOf _ (λ t. encodeAnswer _ t _ _ _ _) countNumber noCase (named .0) (named .1) (answer .0)
@@ -37,7 +37,7 @@ returns-2 c =
 returns-3 : tie.Need-returns-3
 returns-3 c =
     let low = c .before .before .before .if1 .left in
-    let none = no-type _ (sym (c .before .before .from-u8 .ensures) ∙ c .enum-told .given .1) in
+    let none = no-type _ (sym (c .before .before .from-u8 .ensures .0) ∙ c .enum-told .given .1) in
     let rule = ruleOf (c .before .before .before .before .before .before .args .rule) in (
       no-case _ typeOf _ (λ t. countNumber (encodeAnswer rule t _ _ _ _)) noCase none
           ∙ the-case _ ruleOf _ (λ r. ofType _ (λ t. countNumber (encodeAnswer r t _ _ _ _)) noCase) _ low refl,

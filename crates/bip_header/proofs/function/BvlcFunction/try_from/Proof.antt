@@ -6,7 +6,7 @@ use Rattle.bip_header.proofs.function.BvlcFunction.try_from.Statement.{
 use Rattle.bip_header.proofs.function.BvlcFunction.try_from.Tie as tie
 
 returns : tie.Need-returns
-returns c = from-unknown _ (c .if1 .taken)
+returns c = (from-unknown _ (c .if1 .taken), tt)
 
 returns-2 : tie.Need-returns-2
 returns-2 c = from-known _ (c .before .if1 .left) (c .function-of .ensures)
