@@ -1,17 +1,16 @@
 -- `text::put_field` meets its contract: the digits are put behind a space, and both at the place.
 -- Assumes nothing.
-use mathlib.Core.Path.{_≡_, ap, subst, _∙_}
+use mathlib.Core.Path.{_≡_, ap, _∙_}
 use mathlib.Core.List.{List, _++_}
 use Prim.Native.Nat.{ℕ, _≤_}
 use native.Mathlib.Omega.{arith}
-use denote.Ref.{now}
 use lib.ListN.{length, take}
 use Rattle.io.proofs.Counting.{counts}
-use Rattle.octets.specs.Put.{Put, putPlace, putOutput}
+use Rattle.octets.specs.Put.{Put}
 use Rattle.octets.proofs.Puts.{put-call, put-size}
 use Rattle.text.specs.Text.{letters, decimal, field}
 use Rattle.text.proofs.Decimals.{fewest-decimal, length-field}
-use Rattle.text.proofs.Texts.{put-up-to}
+use Rattle.text.proofs.Texts.{put-up-to, put-equal}
 use borrow.Author.Needs.{needs}
 use Rattle.text.proofs.put_field.Statement.{statement}
 use Rattle.text.proofs.put_field.Tie as tie
@@ -45,13 +44,7 @@ slice-aggregate-put-3 : tie.Need-slice-aggregate-put-3
 slice-aggregate-put-3 c = counts _ _ (within (c .before .before)) .1
 
 returns : tie.Need-returns
-returns c =
-    let start = c .before .before .before .before .before .before .before .before .before .before .before .before in
-    let before = now (start .args .out) in
-    let call = c .before .before .put2 in
-    subst (λ (l : List ℕ). (call .result ≡ putPlace l before (start .args .at)) × (call .last .1 .0 ≡ putOutput l before (start .args .at)))
-    (field-there (c .before .before .before .before .before .before))
-    (call .ensures)
+returns c = put-equal _ _ (field-there (c .before .before .before .before .before .before)) (c .before .before .put2 .ensures)
 
 pub put-field-spec : {M : Type 1} → statement M
 put-field-spec =
