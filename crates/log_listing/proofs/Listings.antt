@@ -3,7 +3,7 @@
 use mathlib.Core.Path.{_≡_, refl, sym, ap, ap₂, subst, _∙_}
 use mathlib.Core.List.{List, [], _∷_, _++_, map, flatMap}
 use Prim.Native.Nat.{ℕ, _≤_, _<_}
-use borrow.Author.Tests.{le-leb, lt-leb}
+use borrow.Author.Tests.{le-leb, lt-leb, leb-true}
 use native.Mathlib.Omega.{arith}
 use lib.ListN.{length}
 use lib.Seq.{take-length, length-sets}
@@ -40,7 +40,7 @@ lists-written : (log : List ℕ) → ListsWritten log
 unfolding lines
 lists-written log buffer es few w front =
     let same = take-length log ∙ front in
-    sym (listing-read log few)
+    sym (listing-read log (leb-true (length log) 65536 few))
     ∙ ap (lines log) (sym (listed-written log (length log) buffer es w same))
     ∙ ap (λ (l : List ℕ). l ++ letters "end\n") (entries-lines log es (payloads-written log (length log) buffer es w same))
 

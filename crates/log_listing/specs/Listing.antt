@@ -1,8 +1,8 @@
 -- The text that is printed for a log.
 -- Assumes nothing.
-use Prim.Native.Nat.{ℕ, _≤_}
+use Prim.Native.Nat.{ℕ}
 use mathlib.Core.Path.{_≡_}
-use mathlib.Core.Bool.{Bool, cond}
+use mathlib.Core.Bool.{Bool, true, cond}
 use mathlib.Core.List.{List, [], _∷_, _++_, flatMap}
 use lib.Dec.{eqb, leb}
 use lib.ListN.{length, take}
@@ -56,12 +56,16 @@ lines log l = flatMap (lineOf log) (l .records) ++ lastLine (l .last)
 abbrev pub logLines : List ℕ → List ℕ
 logLines log = lines log (listed log (length log))
 
--- the text of a log: those lines; of more than 65,536 octets `long` alone
-unfoldable pub listing : List ℕ → List ℕ
-listing log = cond (leb (length log) 65536) (logLines log) (letters "long\n")
+-- a log of at most 65,536 octets is read
+abbrev pub isRead : List ℕ → Bool
+isRead log = leb (length log) 65536
 
--- the text of a log whose octets were written by appending: the lines of the entries, newest first, then `end`
+-- the text of a log: those lines; of one that is not read `long` alone
+unfoldable pub listing : List ℕ → List ℕ
+listing log = cond (isRead log) (logLines log) (letters "long\n")
+
+-- the text of a log that is read and whose octets were written by appending: the lines of the entries, newest first, then `end`
 abbrev pub ListsWritten : List ℕ → Type 0
 ListsWritten log =
-    (buffer : List ℕ) (es : List Entry) → length log ≤ 65536 → Written buffer (length log) es → log ≡ take (length log) buffer
+    (buffer : List ℕ) (es : List Entry) → isRead log ≡ true → Written buffer (length log) es → log ≡ take (length log) buffer
     → listing log ≡ flatMap (λ (e : Entry). recordLine (e .kind) (e .payload)) es ++ letters "end\n"

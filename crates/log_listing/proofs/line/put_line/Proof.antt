@@ -1,5 +1,6 @@
 -- `log_listing::line::put_line` meets its contract: each text is put behind those before it.
 -- Assumes nothing.
+use mathlib.Core.Path.{refl}
 use Rattle.text.proofs.Texts.{puts}
 use Rattle.text.proofs.Texts.InTurn.{none, then}
 use Rattle.log_listing.specs.Listing.{line}
@@ -15,11 +16,13 @@ returns c =
     let l = v .before .before .before .before in
     let k = l .before .before .before .before in
     let first = k .before .before .before .before in
-    puts
+    let start = first .before .before .before .before in
+    let a = start .args in
+    puts (line (a .k) (a .l) (a .v) (a .f))
     (then (first .put .ensures)
     (then (k .put-field .ensures)
     (then (l .put-field2 .ensures) (then (v .put-field3 .ensures) (then (f .put-field4 .ensures) (then (c .before .before .put2 .ensures) none))))))
-    (first .before .before .before .before .pre)
+    refl (start .pre)
 
 pub put-line-spec : {M : Type 1} → statement M
 put-line-spec =
