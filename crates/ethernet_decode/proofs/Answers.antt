@@ -47,7 +47,7 @@ module _ (s : List ℕ) where
   module _ {q : ℕ} (asked : q ≡ decodeQuestion s) where
     pub decode-refused : (q ≡ 0 → ⊥) → Decoded (refused q)
     unfolding decode
-    decode-refused fails = (refusal refused value asked fails, λ e. let z : _≡_ {A = ℕ} 0 1 = cc in absurd (omega arith))
+    decode-refused fails = (refusal refused value asked fails, tt)
 
     pub payload-refused : (q ≡ 0 → ⊥) → Payload []
     unfolding payload
@@ -66,7 +66,7 @@ module _ (s : List ℕ) where
         → Decoded (accepted d f)
     unfolding decode payload
     decode-accepted passes octets {d} {f} ed ef =
-        (rw (ed, ef) (acceptance refused value asked passes), λ e. whole)
+        (rw (ed, ef) (acceptance refused value asked passes), whole)
       where
         a : Accepted s
         a = passed passes
@@ -89,7 +89,7 @@ module _ (s : List ℕ) where
       let none = yes-none (decodeQuestion s) (sym result-of ∙ ap (λ (r : EthernetDecoded). r .result) told) in
       let own = decode-accepted refl none octets refl refl in
       let same : value ≡ accepted d f = own .0 ∙ told in
-      own .1 refl .octets
+      own .1 .octets
       ∙ ap₂ (λ (a b : List ℕ). unpadded bacnetType a b (payload s)) (ap (λ (r : EthernetDecoded). r .«dest_mac») same) (ap (λ (r : EthernetDecoded). r .«src_mac») same)
 
   -- the validator's questions are those of reading and the size

@@ -5,7 +5,7 @@ use mathlib.Core.List.{List}
 use Prim.Native.Nat.{ℕ, _≤_}
 use lib.ListN.{length}
 use Rattle.octets.specs.declared.AcceptResult.{AcceptResult}
-use Rattle.octets.specs.declared.AcceptResult.the-variants.{Accepted}
+use Rattle.octets.specs.declared.AcceptResult.the-variants.{Accepted, Refused}
 use Rattle.ethernet_decode.specs.declared.EthernetDecoded.{EthernetDecoded}
 use Rattle.ethernet_decode.specs.Frame.{bacnetType, unpadded}
 use Rattle.ethernet_decode.specs.Decode.{decode, payload}
@@ -16,9 +16,14 @@ pub record LaidOut (s destination source body : List ℕ) : Type 0 where
   pub sourceSize : length source ≡ 6
   pub octets : s ≡ unpadded bacnetType destination source body
 
+-- P holds where the input is accepted
+abbrev pub WhereAccepted : AcceptResult → Type 0 → Type 0
+WhereAccepted Accepted P = P
+WhereAccepted (Refused q) P = Unit {0}
+
 -- where reading accepts, the octets are one, of the addresses read and the payload
 abbrev pub WritesBack : List ℕ → EthernetDecoded → Type 0
-WritesBack s answer = answer .result ≡ Accepted → LaidOut s (answer .«dest_mac») (answer .«src_mac») (payload s)
+WritesBack s answer = WhereAccepted (answer .result) (LaidOut s (answer .«dest_mac») (answer .«src_mac») (payload s))
 
 -- where the octets are one, the part is its payload
 abbrev pub PayloadOf : List ℕ → List ℕ → Type 0
