@@ -7,13 +7,6 @@ use borrow.Author.Needs.{needs}
 use Rattle.ethernet_encode.proofs.output.put_payload.Statement.{statement}
 use Rattle.ethernet_encode.proofs.output.put_payload.Tie as tie
 
-returns : tie.Need-returns
-returns c =
-    let put = c .before .before .before in
-    let start = put .before .before .before .before in
-    put-is (unpadded-payload (start .args .body .now) (c .if1 .taken))
-    (put-call (start .args .body .now) (start .args .out .now) (start .args .at) (omega (arith, start .pre, padded-size (start .args .body .now))) (put .put .ensures .0) (put .put .ensures .1))
-
 returns-2 : tie.Need-returns-2
 returns-2 c =
     let second = c .before .before in
@@ -22,6 +15,13 @@ returns-2 c =
     let all = padded (start .args .body .now) in
     put-is all
     (put-calls (start .args .body .now) _ (start .args .out .now) (start .args .at) (rw all (start .pre)) (first .put .ensures .0) (first .put .ensures .1) (second .put2 .ensures .0) (second .put2 .ensures .1))
+
+returns : tie.Need-returns
+returns c =
+    let put = c .before .before .before in
+    let start = put .before .before .before .before in
+    put-is (unpadded-payload (start .args .body .now) (c .if1 .taken))
+    (put-call (start .args .body .now) (start .args .out .now) (start .args .at) (omega (arith, start .pre, padded-size (start .args .body .now))) (put .put .ensures .0) (put .put .ensures .1))
 
 pub put-payload-spec : {M : Type 1} → statement M
 put-payload-spec =
