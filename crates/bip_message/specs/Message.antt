@@ -1,6 +1,6 @@
 -- What a BVLC message carries: questions 11 to 15, the answer and the NPDU.
 -- Assumes nothing.
-use Prim.Native.Nat.{ℕ, _+_, _<_}
+use Prim.Native.Nat.{ℕ, _+_}
 use mathlib.Core.Path.{_≡_}
 use mathlib.Core.Bool.{Bool, true, cond}
 use mathlib.Core.List.{List, [], _∷_, _++_}
@@ -67,12 +67,11 @@ npduOf (Refused q) s = []
 unfoldable pub npdu : List ℕ → List ℕ
 npdu s = npduOf (process s) s
 
--- if the message is a header that says its length, an address of as many octets as its function has, and at least one octet
--- more, the part is what stands behind the address
+-- if the message is a header that says its length, an address of as many octets as its function has, and a body, the part is
+-- the body
 abbrev pub Whole : List ℕ → List ℕ → Type 0
 Whole s part =
     (function : BvlcFunction) (address body : List ℕ)
     → messageOf (functionNumber function) s ≡ Npdu (4 + length address)
     → s ≡ headerOctets function (length s) ++ (address ++ body)
-    → 0 < length body
     → part ≡ body

@@ -5,14 +5,14 @@ use borrow.Author.Needs.{needs}
 use Rattle.bip_header.proofs.encode.Statement.{statement}
 use Rattle.bip_header.proofs.encode.Tie as tie
 
-returns : tie.Need-returns
-returns c = no-room _ _ _ (c .if1 .taken)
-
 returns-2 : tie.Need-returns-2
 returns-2 c =
     let p = c .before .before .before in
     written _ _ _ (p .before .before .before .if1 .left) (p .before .before .to-u8 .ensures .0)
     (c .before .before .copy .ensures .0) (c .before .before .copy .ensures .1)
+
+returns : tie.Need-returns
+returns c = no-room _ _ _ (c .if1 .taken)
 
 pub encode-spec : {M : Type 1} → statement M
 encode-spec =

@@ -5,11 +5,11 @@ use borrow.Author.Needs.{needs}
 use Rattle.mstp_encode.proofs.encode.Statement.{statement}
 use Rattle.mstp_encode.proofs.encode.Tie as tie
 
-returns : tie.Need-returns
-returns c = too-long _ _ _ _ _ _ (c .if1 .taken)
-
 returns-2 : tie.Need-returns-2
 returns-2 c = no-room _ _ _ _ _ _ (c .before .before .if1 .left) (c .before .frame-size .ensures .0) (c .if2 .taken)
+
+returns : tie.Need-returns
+returns c = too-long _ _ _ _ _ _ (c .if1 .taken)
 
 put-data-requires : tie.Need-put-data-requires
 put-data-requires c κs =

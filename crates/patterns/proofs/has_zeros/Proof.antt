@@ -6,13 +6,13 @@ use Rattle.patterns.specs.Entries.{hasZeros}
 use Rattle.patterns.proofs.has_zeros.Statement.{statement}
 use Rattle.patterns.proofs.has_zeros.Tie as tie
 
-returns : tie.Need-returns
-unfolding hasZeros
-returns c = rw (← (c .before .before .pre .0), lt-leb 8 _ (c .if1 .taken))
-
 returns-2 : tie.Need-returns-2
 unfolding hasZeros
 returns-2 c = rw (← (c .before .before .before .pre .0), le-leb 8 _ (c .before .if1 .left), ← (c .same-from .ensures))
+
+returns : tie.Need-returns
+unfolding hasZeros
+returns c = rw (← (c .before .before .pre .0), lt-leb 8 _ (c .if1 .taken))
 
 pub has-zeros-spec : {M : Type 1} → statement M
 has-zeros-spec = tie.close (tie.spec (λ c. search needs) returns (λ c κs. search needs) returns-2)
