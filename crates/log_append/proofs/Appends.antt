@@ -75,7 +75,7 @@ module _ (buffer : List ℕ) (used kind : ℕ) (payload : List ℕ) (room : used
   gives-back known sized = record {
     read = back;
     octets = ap (payloadOf after) back ∙ rw used-size at (payload-there after (take used buffer) kind payload (used + (length payload + 3)) (omega (arith, after-size)) stands);
-    before = λ end h. same-read after buffer end (omega (arith, after-size)) (omega arith) (kept end h);
+    before = λ k. same-read after buffer (used - k) (omega (arith, after-size)) (omega arith) (kept (used - k) (omega arith));
   }
     where
       back : readRecord after (used + (length payload + 3)) ≡ Record (logRecord kind used (length payload))

@@ -1,6 +1,6 @@
 -- Appending a record: questions 47, 42, 43 and 46, the answer and the lent buffer.
 -- Assumes nothing.
-use Prim.Native.Nat.{ℕ, _+_, _≤_}
+use Prim.Native.Nat.{ℕ, _+_, _-_}
 use mathlib.Core.Path.{_≡_}
 use mathlib.Core.List.{List, [], _∷_, _++_}
 use lib.Dec.{leb}
@@ -39,11 +39,12 @@ module _ (buffer : List ℕ) (used kind : ℕ) (payload : List ℕ) where
   unfoldable pub appendOutput : List ℕ
   appendOutput = writeOutput appendQuestion longer buffer
 
-  -- reading from a new used count gives the record and its octets, and from the old count or before it what it gave before
+  -- reading from a new used count gives the record and its octets, and from the old count, or any k octets before it, what it
+  -- gave before
   pub record GivesBack (after : List ℕ) (n : ℕ) : Type 0 where
     pub read : readRecord after n ≡ Record (logRecord kind used (length payload))
     pub octets : payloadOf after (readRecord after n) ≡ payload
-    pub before : (end : ℕ) → end ≤ used → readRecord after end ≡ readRecord buffer end
+    pub before : (k : ℕ) → readRecord after (used - k) ≡ readRecord buffer (used - k)
 
   -- so it is where the answer is a used count
   abbrev pub ReadsBack : List ℕ → CountResult → Type 0
