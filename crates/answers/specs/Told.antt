@@ -18,7 +18,8 @@ use Rattle.run_finder.specs.declared.FrameFound.{FrameFound}
 use Rattle.run_finder.specs.declared.FrameFound.the-variants as F
 use Rattle.log_record.specs.declared.RecordRead.{RecordRead}
 use Rattle.log_record.specs.declared.RecordRead.the-variants as L
-use Rattle.numbers.specs.Layout.{headerNumbers, bvlcNumbers, resultNumbers, countNumbers}
+use Rattle.numbers.specs.Layout.{headerNumbers, bvlcNumbers, countNumbers}
+use Rattle.result_numbers.specs.Layout.{resultNumbers}
 use Rattle.answers.specs.Parts.{npduNumbers, timeToLiveNumbers, noNpduNumbers, payloadNumbers, recordNumbers}
 
 -- "none", and "start reached"

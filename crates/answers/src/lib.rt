@@ -183,7 +183,7 @@ pub fn tell_analysis(
             let result = answer.validation;
             let statistics = answer.statistics;
             let occurrences = statistics.byte_distribution;
-            *validation = numbers::result_numbers(result);
+            *validation = result_numbers::result_numbers(result);
             *distribution = occurrences;
             *counts = numbers::count_numbers(statistics);
             *count = n;

@@ -1,7 +1,7 @@
 // The findings of the validators and the result that holds them: validation.rs.
 ghost use mathlib.Core.Path.{_≡_};
 ghost use mathlib.Core.List.{[], _∷_};
-ghost use Rattle.findings.specs.Finding.{finding};
+ghost use Rattle.findings.specs.Finding.{finding, frameTooShort};
 ghost use Rattle.findings.specs.Link.{linkNumber};
 ghost use Rattle.findings.specs.Result.{finds, stored, result, noResult};
 
@@ -154,5 +154,11 @@ impl ValidationResult {
             warnings: [UNUSED; 2],
             warning_count: 0,
         }
+    }
+    // A result of a frame with fewer octets than the least that it must have: that error alone.
+    pub fn too_short(link_type: LinkType, frame_size: usize, minimum: usize) -> ValidationResult
+        ensures { λ r. ⌜ r ≡ result «link_type» «frame_size» (frameTooShort «frame_size» minimum ∷ []) [] ⌝ }
+    {
+        ValidationResult::one_error(link_type, frame_size, FRAME_TOO_SHORT, frame_size, minimum)
     }
 }

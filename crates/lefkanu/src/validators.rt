@@ -8,7 +8,7 @@ ghost use Rattle.validation_mstp.specs.Tests.{mstpResult};
 ghost use Rattle.validation_ip.specs.Tests.{ipResult};
 ghost use Rattle.validation_ethernet.specs.Tests.{ethernetResult};
 ghost use Rattle.validation.specs.Frame.{frameResult};
-ghost use Rattle.numbers.specs.Layout.{resultNumbers};
+ghost use Rattle.result_numbers.specs.Layout.{resultNumbers};
 ghost use Rattle.numbers.specs.Named.{underRule};
 ghost use Rattle.answers.specs.Told.{noCase};
 
@@ -28,10 +28,10 @@ pub extern "C" fn lefkanu_validate_mstp_frame(
     }
     let named = numbers::rule_of(rule);
     if validation_mstp::faultless(named, frame) {
-        *result = numbers::clean_numbers(LinkType::MsTP, frame.len());
+        *result = result_numbers::clean_numbers(LinkType::MsTP, frame.len());
         return 0;
     }
-    *result = numbers::result_numbers(validation_mstp::validate_mstp_frame(named, frame));
+    *result = result_numbers::result_numbers(validation_mstp::validate_mstp_frame(named, frame));
     0
 }
 
@@ -41,10 +41,10 @@ pub extern "C" fn lefkanu_validate_bacnet_ip_frame(message: &[u8], result: &mut 
     ensures { λ _. ⌜ now (result .exit) ≡ resultNumbers (ipResult (now (message .entry))) ⌝ }
 {
     if validation_ip::faultless(message) {
-        *result = numbers::clean_numbers(LinkType::BacnetIp, message.len());
+        *result = result_numbers::clean_numbers(LinkType::BacnetIp, message.len());
         return;
     }
-    *result = numbers::result_numbers(validation_ip::validate_bacnet_ip_frame(message));
+    *result = result_numbers::result_numbers(validation_ip::validate_bacnet_ip_frame(message));
 }
 
 // Checks an Ethernet frame.
@@ -53,10 +53,10 @@ pub extern "C" fn lefkanu_validate_ethernet_frame(frame: &[u8], result: &mut [us
     ensures { λ _. ⌜ now (result .exit) ≡ resultNumbers (ethernetResult (now (frame .entry))) ⌝ }
 {
     if validation_ethernet::faultless(frame) {
-        *result = numbers::clean_numbers(LinkType::Ethernet, frame.len());
+        *result = result_numbers::clean_numbers(LinkType::Ethernet, frame.len());
         return;
     }
-    *result = numbers::result_numbers(validation_ethernet::validate_ethernet_frame(frame));
+    *result = result_numbers::result_numbers(validation_ethernet::validate_ethernet_frame(frame));
 }
 
 // Checks a frame by the validator of the link that its octets tell.
@@ -71,9 +71,9 @@ pub extern "C" fn lefkanu_validate_frame(rule: u8, frame: &[u8], result: &mut [u
     }
     let named = numbers::rule_of(rule);
     if validation::faultless(named, frame) {
-        *result = numbers::clean_numbers(validation::link_of(frame), frame.len());
+        *result = result_numbers::clean_numbers(validation::link_of(frame), frame.len());
         return 0;
     }
-    *result = numbers::result_numbers(validation::validate_frame(named, frame));
+    *result = result_numbers::result_numbers(validation::validate_frame(named, frame));
     0
 }

@@ -1,8 +1,7 @@
 -- Results as lists of numbers: their layout in lent memory.
 -- Assumes nothing.
 use Prim.Native.Nat.{ℕ}
-use mathlib.Core.Bool.{cond}
-use mathlib.Core.List.{List, [], _∷_, _++_, flatMap}
+use mathlib.Core.List.{List, [], _∷_}
 use Rattle.datalink.specs.declared.DataLinkError.{DataLinkError}
 use Rattle.datalink.specs.declared.DataLinkError.the-variants.{InvalidFrame, CrcError, Unmatched}
 use Rattle.mstp_frame.specs.FrameType.{typeNumber}
@@ -11,9 +10,6 @@ use Rattle.mstp_decode.specs.declared.DataCrc.the-variants.{Present, Absent}
 use Rattle.mstp_decode.specs.declared.MstpHeader.{MstpHeader}
 use Rattle.bip_header.specs.declared.BvlcHeader.{BvlcHeader}
 use Rattle.bip_header.specs.Function.{functionNumber}
-use Rattle.findings.specs.declared.Finding.{Finding}
-use Rattle.findings.specs.declared.ValidationResult.{ValidationResult}
-use Rattle.findings.specs.Link.{linkNumber}
 use Rattle.statistics.specs.declared.FrameStatistics.{FrameStatistics}
 
 -- the number of an error; 0 where the Rust has none
@@ -48,20 +44,6 @@ headerNumbers h =
 -- a BVLC header: function and length
 abbrev pub bvlcNumbers : BvlcHeader → List ℕ
 bvlcNumbers h = functionNumber (h .function) ∷ h .length ∷ []
-
--- an entry: its kind and two numbers
-abbrev pub entryNumbers : Finding → List ℕ
-entryNumbers entry = entry .kind ∷ entry .first ∷ entry .second ∷ []
-
--- a validator's result: validity, link, size, both counts, then the entries of errors and of warnings
-unfoldable pub resultNumbers : ValidationResult → List ℕ
-resultNumbers r =
-    cond (r .«is_valid») 1 0
-    ∷ linkNumber (r .«link_type»)
-    ∷ r .«frame_size»
-    ∷ r .«error_count»
-    ∷ r .«warning_count»
-    ∷ flatMap entryNumbers (r .errors ++ r .warnings)
 
 -- statistics beside the distribution: octets 00, octets of 80 or more, octet and length of the longest run
 unfoldable pub countNumbers : FrameStatistics → List ℕ

@@ -2,7 +2,6 @@
 use bip_header::BVLC_TYPE;
 use crc::CheckRule;
 use ethernet_decode::BACNET_ETHERNET_TYPE;
-use findings::FRAME_TOO_SHORT;
 use findings::INVALID_HEADER;
 use findings::LinkType;
 use findings::UNDETERMINED;
@@ -71,7 +70,7 @@ fn no_link(size: usize) -> ValidationResult
     ensures { λ r. ⌜ r ≡ result None size (noLinkErrors size) [] ⌝ }
 {
     if size < 1 {
-        return ValidationResult::one_error(LinkType::None, size, FRAME_TOO_SHORT, size, 1);
+        return ValidationResult::too_short(LinkType::None, size, 1);
     }
     ValidationResult::one_error(LinkType::None, size, INVALID_HEADER, UNDETERMINED, 0)
 }

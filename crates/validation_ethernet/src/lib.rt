@@ -4,7 +4,6 @@ use ethernet_decode::BACNET_ETHERNET_TYPE;
 use ethernet_decode::MAX_ETHERNET_FRAME_SIZE;
 use ethernet_decode::MIN_ETHERNET_FRAME_SIZE;
 use findings::FRAME_TOO_LONG;
-use findings::FRAME_TOO_SHORT;
 use findings::INVALID_HEADER;
 use findings::LinkType;
 use findings::MULTICAST_ADDRESS;
@@ -62,13 +61,7 @@ pub fn validate_ethernet_frame(frame: &[u8]) -> ValidationResult
 {
     let size = frame.len();
     if size < BACNET_ETHERNET_HEADER_SIZE {
-        return ValidationResult::one_error(
-            LinkType::Ethernet,
-            size,
-            FRAME_TOO_SHORT,
-            size,
-            BACNET_ETHERNET_HEADER_SIZE,
-        );
+        return ValidationResult::too_short(LinkType::Ethernet, size, BACNET_ETHERNET_HEADER_SIZE);
     }
     let ether_type = octets::number(frame[12], frame[13]);
     let llc = llc(frame);

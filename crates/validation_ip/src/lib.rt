@@ -2,7 +2,6 @@
 use bip_header::BVLC_HEADER_SIZE;
 use bip_header::BVLC_TYPE;
 use findings::FRAME_TOO_LONG;
-use findings::FRAME_TOO_SHORT;
 use findings::INVALID_FRAME_TYPE;
 use findings::INVALID_PREAMBLE;
 use findings::LinkType;
@@ -38,13 +37,7 @@ pub fn validate_bacnet_ip_frame(message: &[u8]) -> ValidationResult
 {
     let size = message.len();
     if size < BVLC_HEADER_SIZE {
-        return ValidationResult::one_error(
-            LinkType::BacnetIp,
-            size,
-            FRAME_TOO_SHORT,
-            size,
-            BVLC_HEADER_SIZE,
-        );
+        return ValidationResult::too_short(LinkType::BacnetIp, size, BVLC_HEADER_SIZE);
     }
     let bvlc_type = message[0];
     let function = message[1];

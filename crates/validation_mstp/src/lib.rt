@@ -2,7 +2,6 @@
 use crc::CheckRule;
 use findings::BROADCAST_SOURCE;
 use findings::CRC_MISMATCH;
-use findings::FRAME_TOO_SHORT;
 use findings::Finding;
 use findings::INVALID_ADDRESS;
 use findings::INVALID_FRAME_TYPE;
@@ -83,13 +82,7 @@ pub fn validate_mstp_frame(rule: CheckRule, frame: &[u8]) -> ValidationResult
 {
     let size = frame.len();
     if size < MSTP_HEADER_SIZE {
-        return ValidationResult::one_error(
-            LinkType::MsTP,
-            size,
-            FRAME_TOO_SHORT,
-            size,
-            MSTP_HEADER_SIZE,
-        );
+        return ValidationResult::too_short(LinkType::MsTP, size, MSTP_HEADER_SIZE);
     }
     let preamble = mstp_frame::preamble(frame) as usize;
     let frame_type = mstp_frame::frame_type(frame);

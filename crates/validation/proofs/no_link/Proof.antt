@@ -9,11 +9,11 @@ use Rattle.validation.proofs.no_link.Tie as tie
 
 returns : tie.Need-returns
 unfolding noLinkErrors errorsOf found
-returns c = rw (lt-ltb _ 1 (c .before .if1 .taken)) (c .one-error .ensures)
+returns c = rw (lt-ltb _ 1 (c .before .if1 .taken)) (c .too-short .ensures)
 
 returns-2 : tie.Need-returns-2
 unfolding noLinkErrors errorsOf found
-returns-2 c = rw (le-ltb _ 1 (c .before .if1 .left)) (c .one-error2 .ensures)
+returns-2 c = rw (le-ltb _ 1 (c .before .if1 .left)) (c .one-error .ensures)
 
 pub no-link-spec : {M : Type 1} → statement M
 no-link-spec =

@@ -18,7 +18,7 @@ returns c =
     let a = c .before in
     let s = a .before .before .args .frame .now in
     short-answer Ethernet _ 17 (errorTests s) (warningTests s) (AgreesWithEthernet s)
-    (agrees-with-ethernet s (λ i. a .before .shared-slice-known .given i .fits)) (a .if1 .taken) (c .one-error .ensures)
+    (agrees-with-ethernet s (λ i. a .before .shared-slice-known .given i .fits)) (a .if1 .taken) (c .too-short .ensures)
 
 returns-2 : tie.Need-returns-2
 unfolding ethernetResult ethernetErrors ethernetWarnings errorTests warningTests fieldOf

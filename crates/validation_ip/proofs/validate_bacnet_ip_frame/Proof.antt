@@ -16,7 +16,7 @@ returns : tie.Need-returns
 unfolding ipResult ipErrors ipWarnings
 returns c =
     let s = c .before .before .before .args .message .now in
-    short-answer BacnetIp _ 4 (errorTests s) (warningTests s) (ValidAsRead s) (valid-as-read s) (c .before .if1 .taken) (c .one-error .ensures)
+    short-answer BacnetIp _ 4 (errorTests s) (warningTests s) (ValidAsRead s) (valid-as-read s) (c .before .if1 .taken) (c .too-short .ensures)
 
 cast-entry-if-2 : tie.Need-cast-entry-if-2
 cast-entry-if-2 c = omega (arith, c .before .before .before .before .before .before .shared-slice-known .given 0 .fits)

@@ -19,7 +19,7 @@ returns c =
     let a = c .before .before .before .args in
     let s = a .frame .now in
     short-answer MsTP _ 8 (errorTests (a .rule) s) (warningTests (a .rule) s) (ValidAsRead (a .rule) s)
-    (valid-as-read (a .rule) s (λ i. c .before .before .shared-slice-known .given i .fits)) (c .before .if1 .taken) (c .one-error .ensures)
+    (valid-as-read (a .rule) s (λ i. c .before .before .shared-slice-known .given i .fits)) (c .before .if1 .taken) (c .too-short .ensures)
 
 -- the first four tests find at most four
 few : (c : tie.After-one-if4)

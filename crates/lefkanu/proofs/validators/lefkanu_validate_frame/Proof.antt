@@ -4,7 +4,7 @@ use mathlib.Core.Path.{refl, sym, _∙_}
 use native.Mathlib.Omega.{arith}
 use Rattle.validation.specs.Frame.{frameResult}
 use Rattle.validation.proofs.Links.{clean-frame}
-use Rattle.numbers.specs.Layout.{resultNumbers}
+use Rattle.result_numbers.specs.Layout.{resultNumbers}
 use Rattle.lefkanu.proofs.Cases.{no-rule, under}
 use borrow.Author.Needs.{needs}
 use Rattle.lefkanu.proofs.validators.lefkanu_validate_frame.Statement.{statement}

@@ -1,11 +1,11 @@
--- `numbers::layout::with_entries` meets its contract: the entries, taken out one by one, are all there are.
+-- `result_numbers::with_entries` meets its contract: the entries, taken out one by one, are all there are.
 -- Assumes nothing.
 use mathlib.Core.List.{flatMap}
 use native.Mathlib.Omega.{arith}
 use borrow.Author.Needs.{needs}
-use Rattle.numbers.proofs.Layouts.{one-by-one}
-use Rattle.numbers.proofs.layout.with_entries.Statement.{statement}
-use Rattle.numbers.proofs.layout.with_entries.Tie as tie
+use Rattle.result_numbers.proofs.Layouts.{one-by-one}
+use Rattle.result_numbers.proofs.with_entries.Statement.{statement}
+use Rattle.result_numbers.proofs.with_entries.Tie as tie
 
 cast-t52 : tie.Need-cast-t52
 cast-t52 c = let known = c .struct-known7 .given in omega arith
