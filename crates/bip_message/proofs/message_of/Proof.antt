@@ -10,20 +10,20 @@ returns : tie.Need-returns
 returns c = rw (sym (c .before .within .ensures) ∙ c .if1 .taken)
 
 returns-2 : tie.Need-returns-2
-returns-2 c = rw (sym (c .before .before .within .ensures) ∙ c .before .if1 .left, eq-eqb _ _ (c .if2 .taken))
+returns-2 c = rw (sym (c .before .before .within .ensures) ∙ c .before .if1 .left, eq-eqb _ 0x04 (c .if2 .taken))
 
 returns-3 : tie.Need-returns-3
 returns-3 c =
     let other = c .before .before .before in
-    rw (sym (other .before .within .ensures) ∙ other .if1 .left, ne-eqb _ _ (c .before .before .if2 .left), eq-eqb _ _ (c .before .if3 .taken))
+    rw (sym (other .before .within .ensures) ∙ other .if1 .left, ne-eqb _ 0x04 (c .before .before .if2 .left), eq-eqb _ 0x05 (c .before .if3 .taken))
     (c .registration .ensures)
 
 returns-4 : tie.Need-returns-4
 returns-4 c =
     rw (
       sym (c .before .before .before .within .ensures) ∙ c .before .before .if1 .left,
-      ne-eqb _ _ (c .before .if2 .left),
-      ne-eqb _ _ (c .if3 .left),
+      ne-eqb _ 0x04 (c .before .if2 .left),
+      ne-eqb _ 0x05 (c .if3 .left),
     )
 
 pub message-of-spec : {M : Type 1} → statement M

@@ -8,11 +8,11 @@ use Rattle.mstp_frame.proofs.fields.begins_preamble.Tie as tie
 
 returns : tie.Need-returns
 unfolding beginsPreamble
-returns c = let first = c .before .before in rw (← c .octet-at2 .ensures, ← first .octet-at .ensures, eq-eqb _ _ (c .before .if1 .taken))
+returns c = let first = c .before .before in rw (← c .octet-at2 .ensures, ← first .octet-at .ensures, eq-eqb _ 0x55 (c .before .if1 .taken))
 
 returns-2 : tie.Need-returns-2
 unfolding beginsPreamble
-returns-2 c = rw (← c .before .octet-at .ensures, ne-eqb _ _ (c .if1 .left))
+returns-2 c = rw (← c .before .octet-at .ensures, ne-eqb _ 0x55 (c .if1 .left))
 
 pub begins-preamble-spec : {M : Type 1} → statement M
 begins-preamble-spec =
