@@ -13,9 +13,9 @@ use Rattle.bip_message.specs.declared.BvlcMessage.the-variants as N
 use Rattle.ethernet_decode.specs.declared.EthernetDecoded.{EthernetDecoded}
 use Rattle.statistics.specs.declared.StatisticsAnswer.{StatisticsAnswer}
 use Rattle.analysis.specs.declared.FrameAnalysis.{FrameAnalysis}
-use Rattle.run_finder.specs.Search.{reportNumbers}
-use Rattle.run_finder.specs.declared.FrameFound.{FrameFound}
-use Rattle.run_finder.specs.declared.FrameFound.the-variants as F
+use Rattle.run_search.specs.Search.{reportNumbers}
+use Rattle.run_search.specs.declared.FrameFound.{FrameFound}
+use Rattle.run_search.specs.declared.FrameFound.the-variants as F
 use Rattle.log_record.specs.declared.RecordRead.{RecordRead}
 use Rattle.log_record.specs.declared.RecordRead.the-variants as L
 use Rattle.numbers.specs.Layout.{headerNumbers, bvlcNumbers, countNumbers}

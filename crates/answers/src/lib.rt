@@ -9,7 +9,7 @@ use log_record::RecordRead;
 use mstp_decode::MstpDecoded;
 use octets::AcceptResult;
 use octets::CountResult;
-use run_finder::FrameFound;
+use run_search::FrameFound;
 use statistics::StatisticsAnswer;
 ghost use mathlib.Core.Path.{_≡_};
 ghost use Prim.Native.Nat.{_-_};

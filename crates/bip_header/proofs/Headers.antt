@@ -61,10 +61,7 @@ module _ (s : List ℕ) where
   module _ {q : ℕ} (asked : q ≡ headerQuestion s) where
     pub decode-refused : (q ≡ 0 → ⊥) → Decoded (Refused q)
     unfolding decode
-    decode-refused fails = (
-      refusal Refused (Header (newHeader (messageFunction s) (messageLength s))) asked fails,
-      λ header e. let z : _≡_ {A = ℕ} 0 1 = cc in absurd (omega arith),
-    )
+    decode-refused fails = (refusal Refused (Header (newHeader (messageFunction s) (messageLength s))) asked fails, tt)
 
     pub facts : q ≡ 0 → Accepted s
     facts passes = accepted s (sym asked ∙ passes)
@@ -76,7 +73,7 @@ module _ (s : List ℕ) where
     decode-accepted passes octets {f} {n} ef en = (
       ap₂ (λ (g : BvlcFunction) (k : ℕ). Header (newHeader g k)) ef en
           ∙ acceptance Refused (Header (newHeader (messageFunction s) (messageLength s))) asked passes,
-      λ header e. back header cc,
+      four,
     )
       where
         a : Accepted s
@@ -86,9 +83,6 @@ module _ (s : List ℕ) where
         four =
             part-is 0 4 s (a .long)
             ∙ rw (a .first, ef, number-back (getD s 1 0) (a .known), en, high-first-of (getD s 2 0) (getD s 3 0) (octets 3))
-
-        back : (header : BvlcHeader) → header ≡ newHeader f n → take 4 s ≡ headerOctets (header .function) (header .length)
-        back header e = rw e four
 
 -- what an answer of reading tells of the octets
 module _ (s : List ℕ) where

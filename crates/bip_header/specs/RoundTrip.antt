@@ -7,9 +7,8 @@ use lib.ListN.{take}
 use Rattle.octets.specs.Output.{InFront}
 use Rattle.octets.specs.declared.CountResult.{CountResult}
 use Rattle.bip_header.specs.declared.function.BvlcFunction.{BvlcFunction}
-use Rattle.bip_header.specs.declared.BvlcHeader.{BvlcHeader}
 use Rattle.bip_header.specs.declared.BvlcDecoded.{BvlcDecoded}
-use Rattle.bip_header.specs.declared.BvlcDecoded.the-variants.{Header}
+use Rattle.bip_header.specs.declared.BvlcDecoded.the-variants.{Header, Refused}
 use Rattle.bip_header.specs.Header.{headerOctets, newHeader, decode}
 
 -- some octets, with any behind them, read back to what was written
@@ -22,7 +21,5 @@ ReadsBack function n out answer = InFront (GivesBack function n) answer out
 
 -- where reading answers a header, the first four octets are what writing gives for its function and length
 abbrev pub WritesBack : List ℕ → BvlcDecoded → Type 0
-WritesBack s answer =
-    (header : BvlcHeader)
-    → answer ≡ Header header
-    → take 4 s ≡ headerOctets (header .function) (header .length)
+WritesBack s (Header header) = take 4 s ≡ headerOctets (header .function) (header .length)
+WritesBack s (Refused question) = Unit {0}

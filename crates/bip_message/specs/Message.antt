@@ -10,6 +10,7 @@ use Rattle.octets.specs.Number.{number}
 use Rattle.octets.specs.Range.{within}
 use Rattle.octets.specs.Question.{Question, ask, firstNo, answered}
 use Rattle.bip_header.specs.declared.function.BvlcFunction.{BvlcFunction}
+use Rattle.bip_header.specs.declared.function.BvlcFunction.the-variants.{OriginalUnicastNpdu}
 use Rattle.bip_header.specs.Function.{functionNumber}
 use Rattle.bip_header.specs.Header.{headerOctets, headerQuestions, messageFunction, messageLength}
 use Rattle.bip_message.specs.declared.BvlcMessage.{BvlcMessage}
@@ -67,11 +68,22 @@ npduOf (Refused q) s = []
 unfoldable pub npdu : List ℕ → List ℕ
 npdu s = npduOf (process s) s
 
--- if the message is a header that says its length, an address of as many octets as its function has, and a body, the part is
--- the body
+-- a message is a header that says its length, an address of as many octets as its function has, and a body
+pub record LaidOut (s : List ℕ) (function : BvlcFunction) (address body : List ℕ) : Type 0 where
+  pub carried : messageOf (functionNumber function) s ≡ Npdu (4 + length address)
+  pub octets : s ≡ headerOctets function (length s) ++ (address ++ body)
+
+-- the least of them: four octets, with neither an address nor a body
+abbrev pub LeastLaidOut : Type 0
+LeastLaidOut = LaidOut (headerOctets OriginalUnicastNpdu 4) OriginalUnicastNpdu [] []
+
+-- where it is one, the part is the body
 abbrev pub Whole : List ℕ → List ℕ → Type 0
-Whole s part =
-    (function : BvlcFunction) (address body : List ℕ)
-    → messageOf (functionNumber function) s ≡ Npdu (4 + length address)
-    → s ≡ headerOctets function (length s) ++ (address ++ body)
-    → part ≡ body
+Whole s part = (function : BvlcFunction) (address body : List ℕ) → LaidOut s function address body → part ≡ body
+
+-- where an NPDU is answered, the message is one, of the function read, some address, and the part
+abbrev pub Carries : List ℕ → BvlcMessage → List ℕ → Type 0
+Carries s (Npdu start) part = (address : List ℕ) × LaidOut s (messageFunction s) address part
+Carries s (TimeToLive n) part = Unit {0}
+Carries s NoNpdu part = Unit {0}
+Carries s (Refused q) part = Unit {0}

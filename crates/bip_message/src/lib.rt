@@ -1,7 +1,7 @@
 // What a BVLC message carries: bip.rs.
 use bip_header::BvlcDecoded;
 ghost use mathlib.Core.Path.{_≡_};
-ghost use Rattle.bip_message.specs.Message.{registration, messageOf, npduThere, questionsBehind, process, npdu, Whole};
+ghost use Rattle.bip_message.specs.Message.{registration, messageOf, npduThere, questionsBehind, process, npdu, LeastLaidOut, Whole, Carries};
 ghost use Rattle.octets.specs.Question.{firstNo, answered};
 ghost use Rattle.bip_message.specs.declared.BvlcMessage.the-variants.{Refused};
 
@@ -101,6 +101,8 @@ pub fn process_bvlc_message(message: &[u8]) -> BvlcMessage
 pub fn npdu(message: &[u8]) -> &[u8]
     ensures { λ r. ⌜ now r ≡ npdu (now (message .entry)) ⌝ }
     ensures whole { λ r. ⌜ Whole (now (message .entry)) (now r) ⌝ }
+    ensures carries { λ r. ⌜ Carries (now (message .entry)) (process (now (message .entry))) (now r) ⌝ }
+    ensures least { λ r. ⌜ LeastLaidOut ⌝ }
 {
     match process_bvlc_message(message) {
         BvlcMessage::Npdu(start) => &message[start..],

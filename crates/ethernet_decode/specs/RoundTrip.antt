@@ -4,8 +4,9 @@ use mathlib.Core.Path.{_≡_}
 use mathlib.Core.List.{List}
 use Prim.Native.Nat.{ℕ, _≤_}
 use lib.ListN.{length}
+use Rattle.octets.specs.Answer.{WhereAccepted}
 use Rattle.octets.specs.declared.AcceptResult.{AcceptResult}
-use Rattle.octets.specs.declared.AcceptResult.the-variants.{Accepted, Refused}
+use Rattle.octets.specs.declared.AcceptResult.the-variants.{Accepted}
 use Rattle.ethernet_decode.specs.declared.EthernetDecoded.{EthernetDecoded}
 use Rattle.ethernet_decode.specs.Frame.{bacnetType, unpadded}
 use Rattle.ethernet_decode.specs.Decode.{decode, payload}
@@ -15,11 +16,6 @@ pub record LaidOut (s destination source body : List ℕ) : Type 0 where
   pub destinationSize : length destination ≡ 6
   pub sourceSize : length source ≡ 6
   pub octets : s ≡ unpadded bacnetType destination source body
-
--- P holds where the input is accepted
-abbrev pub WhereAccepted : AcceptResult → Type 0 → Type 0
-WhereAccepted Accepted P = P
-WhereAccepted (Refused q) P = Unit {0}
 
 -- where reading accepts, the octets are one, of the addresses read and the payload
 abbrev pub WritesBack : List ℕ → EthernetDecoded → Type 0

@@ -1,20 +1,17 @@
 -- A frame as it is written may be written anew; octets that were read, written anew, are themselves.
 -- Assumes nothing.
 use mathlib.Core.Path.{_≡_, refl, sym, ap, _∙_}
-use mathlib.Core.Bool.{Bool, true, _&&_}
-use mathlib.Core.List.{List, [], _∷_, _++_, append-nil}
-use Prim.Native.Nat.{ℕ, zero, suc, _+_, _-_, _≤_, _<_}
+use mathlib.Core.List.{List, _++_, append-nil}
+use Prim.Native.Nat.{ℕ, _+_, _-_, _≤_}
 use native.Mathlib.Omega.{arith}
-use borrow.Author.Tests.{ltb-true}
-use lib.Dec.{ltb}
 use lib.ListN.{length, take, replicate, length-replicate}
 use Rattle.octets.specs.Output.{atFront, writeAnswer, writeOutput}
 use Rattle.octets.specs.Question.{firstNo}
 use Rattle.octets.specs.declared.CountResult.{CountResult}
 use Rattle.octets.specs.declared.CountResult.the-variants.{Count, Refused}
 use Rattle.octets.proofs.Outputs.{take-front}
+use Rattle.octets.proofs.Parts.{allOctets, all-octets, octets-join, octets-repeat}
 use Rattle.octets.proofs.Questions.{answered-value}
-use Rattle.octets.proofs.Tests.{both-true}
 use Rattle.ethernet_decode.specs.Frame.{bacnetType, headerOctets, unpadded}
 use Rattle.ethernet_decode.proofs.Frames.{decode-back, payload-back}
 use Rattle.ethernet_decode.proofs.Answers.{read-is}
@@ -23,24 +20,6 @@ use Rattle.ethernet_encode.specs.Encode.{encodeQuestions, encodeQuestion
 use Rattle.ethernet_encode.specs.RoundTrip.{Octets, Rewritable, WritesAnew, Edge}
 use Rattle.ethernet_encode.proofs.Outputs.{unpadded-size}
 use Rattle.ethernet_encode.proofs.Questions.{passes-both}
-
--- each number is an octet, as a test
-unfoldable allOctets : List ℕ → Bool
-allOctets [] = true
-allOctets (x ∷ s) = ltb x 256 && allOctets s
-
--- octets before others
-octets-before : (a b : List ℕ) → allOctets a ≡ true → Octets b → Octets (a ++ b)
-unfolding allOctets
-octets-before [] b all octets i = octets i
-octets-before (x ∷ a) b all octets zero = ltb-true x 256 (both-true (ltb x 256) (allOctets a) all .0)
-octets-before (x ∷ a) b all octets (suc i) = octets-before a b (both-true (ltb x 256) (allOctets a) all .1) octets i
-
--- an octet n times
-octets-repeat : (n x : ℕ) → x < 256 → Octets (replicate n x)
-octets-repeat zero x octet i = omega arith
-octets-repeat (suc n) x octet zero = octet
-octets-repeat (suc n) x octet (suc i) = octets-repeat n x octet i
 
 module _ (d e body out : List ℕ) where
   -- a frame that needs no padding and passes the questions may be written anew
@@ -83,11 +62,19 @@ edge n least most =
     let d : List ℕ = replicate 6 0xFF in
     let e : List ℕ = replicate 6 0x00 in
     let body : List ℕ = replicate (n - 17) 0xFF in
+    let out : List ℕ = replicate n 0x00 in
     let many : length body ≡ n - 17 = length-replicate (n - 17) 0xFF in
+    let s : List ℕ = unpadded bacnetType d e body in
+    let are : Octets s
+    = octets-join (headerOctets bacnetType d e) body (all-octets (headerOctets bacnetType d e) refl) (octets-repeat (n - 17) 0xFF (omega arith)) in
+    let may : Rewritable d e body out s
+    = rewritable d e body out refl refl (omega (arith, many)) (omega (arith, many)) (omega (arith, many, length-replicate {A = ℕ} n 0x00)) in
+    let anew = writes-anew d e body out refl refl s are may in
     record {
-      s = unpadded bacnetType d e body;
+      s = s;
       size = unpadded-size d e body refl refl ∙ omega (arith, many);
-      octets = octets-before (headerOctets bacnetType d e) body refl (octets-repeat (n - 17) 0xFF (omega arith));
-      holds = rewritable d e body (replicate n 0x00) refl refl
-          (omega (arith, many)) (omega (arith, many)) (omega (arith, many, length-replicate {A = ℕ} n 0x00));
+      octets = are;
+      holds = may;
+      counted = anew .0;
+      front = anew .1;
     }

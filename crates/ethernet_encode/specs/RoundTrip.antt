@@ -10,7 +10,7 @@ use Rattle.octets.specs.declared.CountResult.{CountResult}
 use Rattle.octets.specs.declared.CountResult.the-variants.{Count}
 use Rattle.ethernet_decode.specs.Decode.{accepted, decode, payload}
 use Rattle.ethernet_encode.specs.Frame.{padding, paddedPayload}
-use Rattle.ethernet_encode.specs.Encode.{encodeQuestions}
+use Rattle.ethernet_encode.specs.Encode.{encodeQuestions, encodeAnswer, encodeOutput}
 
 -- each number is an octet
 abbrev pub Octets : List ℕ → Type 0
@@ -34,9 +34,11 @@ WritesAnew destination source body before after answer =
     (s : List ℕ) → Octets s → Rewritable destination source body before s
     → (answer ≡ Count (length s)) × (take (length s) after ≡ s)
 
--- there are such octets, n of them for an output of n: to all, from address 0, with a payload of FF
+-- there are such octets, n of them for an output of n: to all, from address 0, with a payload of FF; and so they are written
 pub record Edge (n : ℕ) : Type 0 where
   pub s : List ℕ
   pub size : length s ≡ n
   pub octets : Octets s
   pub holds : Rewritable (replicate 6 0xFF) (replicate 6 0x00) (replicate (n - 17) 0xFF) (replicate n 0x00) s
+  pub counted : encodeAnswer (replicate 6 0xFF) (replicate 6 0x00) (replicate (n - 17) 0xFF) (replicate n 0x00) ≡ Count (length s)
+  pub front : take (length s) (encodeOutput (replicate 6 0xFF) (replicate 6 0x00) (replicate (n - 17) 0xFF) (replicate n 0x00)) ≡ s

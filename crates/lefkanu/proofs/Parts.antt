@@ -14,7 +14,7 @@ use Rattle.mstp_decode.specs.declared.MstpDecoded.the-variants as M
 use Rattle.mstp_frame.specs.Fields.{dataPart}
 use Rattle.mstp_decode.specs.Decode as mstp
 use Rattle.bip_message.specs.declared.BvlcMessage.{BvlcMessage}
-use Rattle.bip_message.specs.declared.BvlcMessage.the-variants.{Npdu}
+use Rattle.bip_message.specs.declared.BvlcMessage.the-variants.{Npdu, TimeToLive, NoNpdu, Refused}
 use Rattle.bip_message.specs.Message.{process, npduOf, npdu}
 use Rattle.ethernet_decode.specs.declared.EthernetDecoded.{EthernetDecoded}
 use Rattle.ethernet_decode.specs.Decode as ethernet
@@ -22,7 +22,7 @@ use Rattle.log_record.specs.declared.RecordRead.{RecordRead}
 use Rattle.log_record.specs.declared.RecordRead.the-variants as L
 use Rattle.log_record.specs.Read.{readQuestion, recordBefore, readRecord, payloadOf}
 use Rattle.numbers.specs.Layout.{headerNumbers}
-use Rattle.answers.specs.Parts.{partNamed}
+use Rattle.answers.specs.Parts.{partNamed, NpduNamed}
 use Rattle.answers.specs.Told.{mstpNumber, mstpHeader, messageCarried, decodedNumber, decodedPayload, recordNumber, recordRead}
 
 -- all from a place on
@@ -41,12 +41,15 @@ data-named rule s before e = by (mstp.decodeQuestion rule s) e
     by (suc q) none = absurd (omega arith)
 
 -- the NPDU of a BVLC message
-pub npdu-named : (s before : List ℕ) (start : ℕ) → process s ≡ Npdu start
-    → partNamed 1 (messageCarried (length s) before (process s)) s ≡ npdu s
+pub npdu-named : (s before : List ℕ) → NpduNamed (process s) (messageCarried (length s) before (process s)) s
 unfolding npdu
-npdu-named s before start e =
-    ap (λ (m : BvlcMessage). partNamed 1 (messageCarried (length s) before m) s) e
-    ∙ rest start s ∙ sym (ap (λ (m : BvlcMessage). npduOf m s) e)
+npdu-named s before = by (process s) refl
+  where
+    by : (m : BvlcMessage) → process s ≡ m → NpduNamed m (messageCarried (length s) before m) s
+    by (Npdu start) e = rest start s ∙ sym (ap (λ (m : BvlcMessage). npduOf m s) e)
+    by (TimeToLive n) e = tt
+    by NoNpdu e = tt
+    by (Refused q) e = tt
 
 -- the payload of an Ethernet frame
 pub payload-named : (s before : List ℕ) → decodedNumber (ethernet.decode s) ≡ 0

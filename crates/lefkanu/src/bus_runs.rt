@@ -2,7 +2,7 @@
 use answers::NO_CASE;
 use numbers::LAST_RULE;
 ghost use mathlib.Core.Path.{_≡_};
-ghost use Rattle.run_finder.specs.Search.{find};
+ghost use Rattle.run_finder.specs.Find.{find};
 ghost use Rattle.run_reading.specs.Answer.{countAnswer, readAnswer, readOutput};
 ghost use Rattle.numbers.specs.Named.{underRule};
 ghost use Rattle.octets.specs.Answer.{countNumber, countOr};

@@ -3,12 +3,10 @@ use answers::NO_CASE;
 use bip_header::BvlcFunction;
 use bip_header::FunctionRead;
 ghost use mathlib.Core.Path.{_≡_};
-ghost use Prim.Native.Nat.{ℕ};
 ghost use lib.ListN.{length};
-ghost use Rattle.bip_message.specs.declared.BvlcMessage.the-variants.{Npdu};
 ghost use Rattle.bip_header.specs.Header.{decode, encodeAnswer, encodeOutput};
-ghost use Rattle.bip_message.specs.Message.{process, npdu};
-ghost use Rattle.answers.specs.Parts.{partNamed};
+ghost use Rattle.bip_message.specs.Message.{process};
+ghost use Rattle.answers.specs.Parts.{NpduNamed};
 ghost use Rattle.numbers.specs.Named.{ofFunction};
 ghost use Rattle.octets.specs.Answer.{countNumber, countOr};
 ghost use Rattle.answers.specs.Told.{noCase, bvlcNumber, bvlcHeader, messageNumber, messageCarried};
@@ -52,9 +50,7 @@ pub extern "C" fn lefkanu_process_bvlc_message(message: &[u8], carried: &mut [us
     ensures { λ r. ⌜ r ≡ messageNumber (process (now (message .entry))) ⌝ }
     ensures carried { λ r. ⌜ now (carried .exit)
         ≡ messageCarried (length (now (message .entry))) (now (carried .entry)) (process (now (message .entry))) ⌝ }
-    ensures part { λ r. ⌜ ((start : ℕ)
-        → process (now (message .entry)) ≡ Npdu start
-        → partNamed 1 (now (carried .exit)) (now (message .entry)) ≡ npdu (now (message .entry))) ⌝ }
+    ensures part { λ r. ⌜ NpduNamed (process (now (message .entry))) (now (carried .exit)) (now (message .entry)) ⌝ }
 {
     answers::tell_message(
         bip_message::process_bvlc_message(message),

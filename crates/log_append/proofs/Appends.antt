@@ -92,7 +92,7 @@ module _ (buffer : List ℕ) (used kind : ℕ) (payload : List ℕ) where
   unfolding appendAnswer appendOutput
   refused asked fails =
       left-refused Refused _ (λ r l. ReadsBack buffer used kind payload l r) (longer buffer used kind payload) buffer
-      (λ k n same. let z : _≡_ {A = ℕ} 0 1 = cc in absurd (omega arith))
+      (λ k. tt)
       asked
       fails
 
@@ -146,7 +146,7 @@ module _ (buffer : List ℕ) (used kind : ℕ) (payload : List ℕ) where
               left-written Refused (Count (used + length (recordOctets kind payload))) (λ r l. ReadsBack buffer used kind payload l r) (longer buffer used kind payload) buffer none
               (ap Count (put .place))
               front
-              (λ m same. let is : used + (length payload + 3) ≡ m = place ∙ cc in rw (front, ← is) there)
+              (rw (front, ← place) there)
             where
               place : used + (length payload + 3) ≡ n
               place = omega (arith, put .place, record-size kind payload)

@@ -6,6 +6,7 @@ use mathlib.Core.List.{List, [], _∷_, _++_}
 use lib.Dec.{leb}
 use lib.ListN.{length, take}
 use Rattle.octets.specs.Question.{Question, ask, firstNo, answered}
+use Rattle.octets.specs.Answer.{WhereCounted}
 use Rattle.octets.specs.Output.{writeOutput}
 use Rattle.log_record.specs.Record.{knownKind, allowedSize, recordOctets}
 use Rattle.log_record.specs.Read.{logRecord, readRecord, payloadOf}
@@ -48,4 +49,4 @@ module _ (buffer : List ℕ) (used kind : ℕ) (payload : List ℕ) where
 
   -- so it is where the answer is a used count
   abbrev pub ReadsBack : List ℕ → CountResult → Type 0
-  ReadsBack after answer = (n : ℕ) → answer ≡ Count n → GivesBack after n
+  ReadsBack after answer = WhereCounted answer (λ n. GivesBack after n)

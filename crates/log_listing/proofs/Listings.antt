@@ -3,7 +3,7 @@
 use mathlib.Core.Path.{_≡_, refl, sym, ap, ap₂, subst, _∙_}
 use mathlib.Core.List.{List, [], _∷_, _++_, map, flatMap}
 use Prim.Native.Nat.{ℕ, _≤_, _<_}
-use borrow.Author.Tests.{le-leb, lt-leb, leb-true}
+use borrow.Author.Tests.{le-leb, lt-leb}
 use native.Mathlib.Omega.{arith}
 use lib.ListN.{length}
 use lib.Seq.{take-length, length-sets}
@@ -13,10 +13,11 @@ use Rattle.octets.specs.Output.{atFront}
 use Rattle.log_record.specs.Record.{Entry}
 use Rattle.log_record.specs.Read.{payloadIn}
 use Rattle.log_reading.specs.Written.{recordsOf}
-use Rattle.log_reading.proofs.Written.{listed-written, payloads-written}
+use Rattle.log_reading.proofs.Reading.{whole-back, counts-back}
+use Rattle.log_reading.proofs.Written.{reads-written}
 use Rattle.text.specs.Text.{letters}
 use Rattle.octets.specs.Put.{Put}
-use Rattle.log_listing.specs.Listing.{recordLine, lineOf, lines, logLines, listing, ListsWritten}
+use Rattle.log_listing.specs.Listing.{recordLine, lineOf, lines, logLines, ifRead, listing, ListsWritten}
 use Rattle.octets.proofs.Puts.{put-front}
 
 -- the text where the log is read, and where it is too long
@@ -37,12 +38,12 @@ entries-lines log (e ∷ es) same =
     ap₂ (λ (p l : List ℕ). recordLine (e .kind) p ++ l) (cc) (entries-lines log es (cc))
 
 lists-written : (log : List ℕ) → ListsWritten log
-unfolding lines
-lists-written log buffer es few w front =
-    let same = take-length log ∙ front in
-    sym (listing-read log (leb-true (length log) 65536 few))
-    ∙ ap (lines log) (sym (listed-written log (length log) buffer es w same))
-    ∙ ap (λ (l : List ℕ). l ++ letters "end\n") (entries-lines log es (payloads-written log (length log) buffer es w same))
+unfolding listing lines
+lists-written log buffer es w front =
+    let gives = reads-written log (length log) (counts-back log (length log) refl) buffer es w (take-length log ∙ front) in
+    ap (ifRead log)
+    (ap (lines log) (sym (whole-back log (length log) .only _ (gives .read)))
+    ∙ ap (λ (l : List ℕ). l ++ letters "end\n") (entries-lines log es (gives .payloads)))
 
 -- what `list_log` answers and leaves
 pub text-put : (log : List ℕ) {text before after : List ℕ} {n : ℕ} → text ≡ listing log → Put text before 0 after n

@@ -10,25 +10,19 @@ use mir.Val.{boolByte}
 use lib.Dec.{eqb}
 use lib.ListN.{length, length-append}
 use Rattle.octets.proofs.Parts.{Octets}
-use Rattle.octets.proofs.Questions.{none-fails, answered-value}
 use Rattle.crc.specs.declared.CheckRule.the-variants.{AnnexG}
-use Rattle.octets.specs.Size.{sizeQuestion}
 use Rattle.octets.specs.declared.CountResult.{CountResult}
 use Rattle.octets.specs.declared.CountResult.the-variants.{Count, Refused}
-use Rattle.run_reading.specs.Reading.{reading}
-use Rattle.run_reading.specs.Answer.{countAnswer}
-use Rattle.run_reading.proofs.Pass.{few-reports}
+use Rattle.run_finder.specs.Reading.{reading}
+use Rattle.run_reading.specs.Answer.{Counted}
+use Rattle.run_finder.proofs.Pass.{few-reports}
 use Rattle.log_listing.specs.Listing.{valid, frames, line, recordLine}
 use Rattle.text.proofs.Decimals.{length-field}
 
 -- counting the frames of so few octets is not refused
-module _ (payload : List ℕ) (few : length payload ≤ 1514) {answer : CountResult} (e : answer ≡ countAnswer AnnexG payload) where
+module _ (payload : List ℕ) (few : length payload ≤ 1514) {answer : CountResult} (covered : Counted AnnexG payload answer) where
   counted : answer ≡ Count (length (reading AnnexG payload))
-  unfolding countAnswer
-  counted =
-      e
-      ∙ answered-value Refused (Count (length (reading AnnexG payload)))
-      (none-fails (sizeQuestion payload ∷ []) (le-leb (length payload) 65535 (omega arith), tt))
+  counted = covered (le-leb (length payload) 65535 (omega arith))
 
   pub same-count : {n : ℕ} → answer ≡ Count n → n ≡ length (reading AnnexG payload)
   same-count same = let all = counted in cc

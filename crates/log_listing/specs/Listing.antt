@@ -2,7 +2,7 @@
 -- Assumes nothing.
 use Prim.Native.Nat.{ℕ}
 use mathlib.Core.Path.{_≡_}
-use mathlib.Core.Bool.{Bool, true, cond}
+use mathlib.Core.Bool.{Bool, cond}
 use mathlib.Core.List.{List, [], _∷_, _++_, flatMap}
 use lib.Dec.{eqb, leb}
 use lib.ListN.{length, take}
@@ -11,7 +11,7 @@ use Rattle.crc.specs.declared.CheckRule.the-variants.{AnnexG}
 use Rattle.validation_mstp.specs.Tests.{mstpResult}
 use Rattle.validation_ip.specs.Tests.{ipResult}
 use Rattle.validation_ethernet.specs.Tests.{ethernetResult}
-use Rattle.run_reading.specs.Reading.{reading}
+use Rattle.run_finder.specs.Reading.{reading}
 use Rattle.log_record.specs.declared.LogRecord.{LogRecord}
 use Rattle.log_record.specs.declared.RecordRead.{RecordRead}
 use Rattle.log_record.specs.declared.RecordRead.the-variants.{Record, StartReached, Refused}
@@ -60,12 +60,16 @@ logLines log = lines log (listed log (length log))
 abbrev pub isRead : List ℕ → Bool
 isRead log = leb (length log) 65536
 
--- the text of a log: those lines; of one that is not read `long` alone
-unfoldable pub listing : List ℕ → List ℕ
-listing log = cond (isRead log) (logLines log) (letters "long\n")
+-- some lines, or `long` alone for a log that is not read
+abbrev pub ifRead : List ℕ → List ℕ → List ℕ
+ifRead log text = cond (isRead log) text (letters "long\n")
 
--- the text of a log that is read and whose octets were written by appending: the lines of the entries, newest first, then `end`
+-- the text of a log
+unfoldable pub listing : List ℕ → List ℕ
+listing log = ifRead log (logLines log)
+
+-- the text of a log whose octets were written by appending: if it is read, the lines of the entries, newest first, then `end`
 abbrev pub ListsWritten : List ℕ → Type 0
 ListsWritten log =
-    (buffer : List ℕ) (es : List Entry) → isRead log ≡ true → Written buffer (length log) es → log ≡ take (length log) buffer
-    → listing log ≡ flatMap (λ (e : Entry). recordLine (e .kind) (e .payload)) es ++ letters "end\n"
+    (buffer : List ℕ) (es : List Entry) → Written buffer (length log) es → log ≡ take (length log) buffer
+    → listing log ≡ ifRead log (flatMap (λ (e : Entry). recordLine (e .kind) (e .payload)) es ++ letters "end\n")

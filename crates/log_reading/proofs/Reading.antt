@@ -6,7 +6,7 @@ use Prim.Native.Nat.{ℕ, zero, suc, _+_, _≤_, _<_}
 use native.Mathlib.Omega.{arith}
 use lib.ListN.{length}
 use Rattle.log_record.specs.Read.{readRecord}
-use Rattle.log_reading.specs.Reading.{Back, Listed, andThen, andOn, withinCalls, listed, countAnswer, CountsBack}
+use Rattle.log_reading.specs.Reading.{Back, Listed, WholeBack, andThen, andOn, withinCalls, listed, countAnswer, CountsBack}
 use Rattle.log_reading.specs.Reading.Back.{start, refused, next}
 use Rattle.log_record.specs.declared.LogRecord.{LogRecord}
 use Rattle.log_record.specs.declared.RecordRead.{RecordRead}
@@ -62,14 +62,17 @@ module _ (log : List ℕ) where
       by (Refused q) e on = rw (listed-last end e refl) (refused e)
 
   -- and nothing else is
-  pub only : (end : ℕ) {xs : List LogRecord} {a : RecordRead} → Back log end xs a → record { records = xs; last = a } ≡ listed log end
+  only : (end : ℕ) {xs : List LogRecord} {a : RecordRead} → Back log end xs a → record { records = xs; last = a } ≡ listed log end
   only end (start e) = sym (listed-last end e refl)
   only end (refused e) = sym (listed-last end e refl)
   only end (next {x = x} e b) = ap (andThen x) (only (x .start) b) ∙ sym (listed-next end e)
 
+  pub whole-back : (end : ℕ) → WholeBack log end (listed log end)
+  whole-back end = record { read = back (suc end) end (omega arith); only = λ others b. only end b }
+
   pub counts-back : (end : ℕ) {r : RecordsCounted} → r ≡ countAnswer log end → CountsBack log end r
   unfolding countAnswer
-  counts-back end e = (listed log end, record { read = back (suc end) end (omega arith); only = λ others b. only end b }, e)
+  counts-back end e = (listed log end, whole-back end, e)
 
   -- a loop over the records from an end: those that it has counted and those of the calls from here are all
   pub record Past (end count at : ℕ) : Type 0 where

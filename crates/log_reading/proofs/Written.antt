@@ -13,7 +13,7 @@ use Rattle.octets.proofs.Questions.{all-yes, answered-value, answered-refused, 
 use Rattle.log_record.specs.Record.{Entry, knownKind, allowedSize, recordOctets}
 use Rattle.log_record.specs.Read.{payloadIn}
 use Rattle.log_append.specs.Append.{longer, appendQuestions, appendQuestion, appendAnswer, appendOutput}
-use Rattle.log_reading.specs.Reading.{Back, listed, counted, countAnswer}
+use Rattle.log_reading.specs.Reading.{Back, counted, CountsBack}
 use Rattle.log_reading.specs.Reading.Back.{start, next}
 use Rattle.log_reading.specs.Written.{Written, logOf, recordsOf, ReadsWritten}
 use Rattle.log_reading.specs.Written.Written.{empty, taken, refused}
@@ -23,7 +23,6 @@ use Rattle.log_reading.specs.declared.RecordsCounted.{RecordsCounted}
 use Rattle.log_record.proofs.Read.{at-start}
 use Rattle.log_record.proofs.Ends.{end-is, read-there, payload-there}
 use Rattle.log_append.proofs.Appends.{record-size, stands, after-size}
-use Rattle.log_reading.proofs.Reading.{only}
 
 -- entries that appending takes
 abbrev Taken : List Entry → Type 0
@@ -91,33 +90,25 @@ module _ (log : List ℕ) where
         ap₂ (λ (p : List ℕ) (ps : List (List ℕ)). p ∷ ps) (payload-there log (logOf es) (e .kind) (e .payload) end fits octets) (on .1),
       )
 
-  -- so the whole reading gives the entries
-  module _ (end : ℕ) (buffer : List ℕ) (es : List Entry) (w : Written buffer end es) (front : take end log ≡ take end buffer) where
-    given : Gives end es
-    given =
-        let h = holds buffer end es w in
-        let long : end ≤ length log = omega (arith, h .fits, ap length front, length-take end log, length-take end buffer) in
-        gives es end long (front ∙ h .octets) (h .taken)
-
-    pub listed-written : record { records = recordsOf es; last = StartReached } ≡ listed log end
-    listed-written = only log end (given .0)
-
-    pub payloads-written : map (payloadIn log) (recordsOf es) ≡ map (λ (e : Entry). e .payload) es
-    payloads-written = given .1
+  -- so they do back from the end of a written log
+  given : (end : ℕ) (buffer : List ℕ) (es : List Entry) → Written buffer end es → take end log ≡ take end buffer → Gives end es
+  given end buffer es w front =
+      let h = holds buffer end es w in
+      let long : end ≤ length log = omega (arith, h .fits, ap length front, length-take end log, length-take end buffer) in
+      gives es end long (front ∙ h .octets) (h .taken)
 
 records-as-many : (es : List Entry) → length (recordsOf es) ≡ length es
 unfolding recordsOf
 records-as-many [] = refl
 records-as-many (e ∷ es) = ap suc (records-as-many es)
 
--- and counting counts them
-pub reads-written : (log : List ℕ) (end : ℕ) {r : RecordsCounted} → r ≡ countAnswer log end → ReadsWritten log end r
-unfolding countAnswer
-reads-written log end e buffer es w front = record {
-  read = given log end buffer es w front .0;
-  payloads = payloads-written log end buffer es w front;
-  count =
-      e
-      ∙ sym (ap counted (listed-written log end buffer es w front))
-      ∙ ap (λ (n : ℕ). record { count = n; last = StartReached }) (records-as-many es);
-}
+-- and what counts the whole reading counts them
+pub reads-written : (log : List ℕ) (end : ℕ) {r : RecordsCounted} → CountsBack log end r → ReadsWritten log end r
+reads-written log end counts buffer es w front =
+    let all = given log end buffer es w front in
+    let whole = counts .1 .only (record { records = recordsOf es; last = StartReached }) (all .0) in
+    record {
+      read = all .0;
+      payloads = all .1;
+      count = counts .2 ∙ sym (ap counted whole) ∙ ap (λ (n : ℕ). record { count = n; last = StartReached }) (records-as-many es);
+    }

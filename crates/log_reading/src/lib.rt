@@ -3,6 +3,7 @@ use log_record::RecordRead;
 ghost use mathlib.Core.Path.{_≡_};
 ghost use Rattle.log_reading.specs.Reading.{countAnswer, CountsBack};
 ghost use Rattle.log_reading.specs.Written.{ReadsWritten};
+ghost use Rattle.log_reading.specs.Example.{Example};
 
 // What a whole reading answers: how many records there are, and the answer behind them, which is no record.
 pub struct RecordsCounted {
@@ -17,6 +18,7 @@ pub fn count_records(log: &[u8], end: usize) -> RecordsCounted
     ensures { λ r. ⌜ r ≡ countAnswer (now (log .entry)) end ⌝ }
     ensures calls { λ r. ⌜ CountsBack (now (log .entry)) end r ⌝ }
     ensures written { λ r. ⌜ ReadsWritten (now (log .entry)) end r ⌝ }
+    ensures example { λ r. ⌜ Example ⌝ }
 {
     let mut count: usize = 0;
     let mut at = end;

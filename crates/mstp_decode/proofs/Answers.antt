@@ -3,7 +3,6 @@
 use mathlib.Core.Path.{_≡_, sym, ap, _∙_}
 use mathlib.Core.List.{List, []}
 use Prim.Native.Nat.{ℕ}
-use native.Mathlib.Omega.{arith}
 use Rattle.octets.proofs.Parts.{Octets}
 use Rattle.octets.proofs.Questions.{refusal, acceptance}
 use Rattle.crc.specs.declared.CheckRule.{CheckRule}
@@ -12,7 +11,6 @@ use Rattle.mstp_decode.specs.declared.MstpDecoded.{MstpDecoded}
 use Rattle.mstp_decode.specs.declared.MstpDecoded.the-variants.{Frame, Refused}
 use Rattle.mstp_frame.specs.Fields.{dataPart}
 use Rattle.mstp_decode.specs.Decode.{decodeQuestion, headerOf, decode, frameData}
-use Rattle.mstp_frame.specs.Frame.{encodeFrame}
 use Rattle.mstp_decode.specs.RoundTrip.{WritesBack, DataOf}
 use Rattle.mstp_decode.proofs.Accepted.{Accepted, accepted}
 use Rattle.mstp_decode.proofs.ReadsBack.{data-back}
@@ -33,10 +31,7 @@ module _ (rule : CheckRule) (s : List ℕ) where
   module _ {q : ℕ} (asked : q ≡ decodeQuestion rule s) (fails : q ≡ 0 → ⊥) where
     pub decode-refused : Decoded (Refused q)
     unfolding decode
-    decode-refused = (
-      refusal Refused (Frame (headerOf s)) asked fails,
-      λ header e. let z : _≡_ {A = ℕ} 0 1 = cc in absurd (omega arith),
-    )
+    decode-refused = (refusal Refused (Frame (headerOf s)) asked fails, tt)
 
     pub data-refused : Data []
     unfolding frameData
@@ -54,12 +49,8 @@ module _ (rule : CheckRule) (s : List ℕ) where
     unfolding decode headerOf
     decode-accepted {header} octets e = (
       ap Frame e ∙ acceptance Refused (Frame (headerOf s)) asked passes,
-      λ other same. back other cc,
+      rw (e, ← part-is) (written-back rule s octets facts),
     )
-      where
-        back : (other : MstpHeader) → other ≡ headerOf s
-            → s ≡ encodeFrame rule (other .«frame_type») (other .destination) (other .source) (frameData rule s)
-        back other f = rw (f, ← part-is) (written-back rule s octets facts)
 
     pub data-accepted : {part : List ℕ} → part ≡ dataPart s → Data part
     data-accepted e = data-of (e ∙ part-is)

@@ -1,4 +1,5 @@
 pub mod Accepted
 pub mod Answers
+pub mod Sizes
 pub mod ReadsBack
 pub mod WritesBack

@@ -17,11 +17,13 @@ use Rattle.crc.specs.Rule.{headerCheck, dataCheck}
 use Rattle.crc.specs.declared.CheckRule.{CheckRule}
 use Rattle.mstp_frame.specs.declared.MstpFrameType.{MstpFrameType}
 use Rattle.mstp_encode.specs.Encode.{encodeQuestions, encodeQuestion, encodeAnswer, encodeOutput}
-use Rattle.mstp_frame.specs.Frame.{headerFields, headerOctets, dataOctets, encodeFrame, frameSize}
+use Rattle.mstp_frame.specs.Size.{frameSize}
+use Rattle.mstp_decode.specs.Frame.{headerFields, headerOctets, dataOctets, encodeFrame}
 use Rattle.mstp_frame.specs.FrameType.{typeNumber}
 use Rattle.mstp_decode.specs.RoundTrip.{GivesBack, ReadsBack}
 use Rattle.mstp_decode.proofs.ReadsBack.{decode-back, data-back}
-use Rattle.mstp_frame.proofs.Sizes.{size-least, encoded-size}
+use Rattle.mstp_frame.proofs.Sizes.{size-least}
+use Rattle.mstp_decode.proofs.Sizes.{encoded-size}
 
 -- eight octets are a header
 pub header-is : (rule : CheckRule) (t : MstpFrameType) (destination source n : ℕ) {number check : ℕ}

@@ -9,11 +9,19 @@ use Rattle.octets.specs.Output.{writeAnswer, writeOutput}
 use Rattle.octets.specs.declared.CountResult.{CountResult}
 use Rattle.crc.specs.declared.CheckRule.{CheckRule}
 use Rattle.mstp_frame.specs.declared.MstpFrameType.{MstpFrameType}
-use Rattle.mstp_frame.specs.Frame.{encodeFrame}
+use Rattle.mstp_decode.specs.Frame.{encodeFrame}
+
+-- question 7: at most 501 data octets?
+abbrev pub dataQuestion : List ℕ → Question
+dataQuestion body = ask 7 (leb (length body) 501)
+
+-- question 8: room for the frame's octets in the output?
+abbrev pub roomQuestion : List ℕ → List ℕ → Question
+roomQuestion frame out = ask 8 (leb (length frame) (length out))
 
 -- the questions in document 01's order: of the data, the frame's octets and the lent output
 unfoldable pub encodeQuestions : List ℕ → List ℕ → List ℕ → List Question
-encodeQuestions body frame out = ask 7 (leb (length body) 501) ∷ ask 8 (leb (length frame) (length out)) ∷ []
+encodeQuestions body frame out = dataQuestion body ∷ roomQuestion frame out ∷ []
 
 module _ (rule : CheckRule) (frameType : MstpFrameType) (destination source : ℕ) (body out : List ℕ) where
   -- the frame's octets

@@ -6,7 +6,7 @@ use mstp_frame::MstpFrameType;
 ghost use Prim.Native.Nat.{_+_, _≤_};
 ghost use lib.ListN.{length};
 ghost use Rattle.octets.specs.Put.{Put};
-ghost use Rattle.mstp_frame.specs.Frame.{headerFields, headerOctets, dataOctets};
+ghost use Rattle.mstp_decode.specs.Frame.{headerFields, headerOctets, dataOctets};
 
 // A header that says n data octets, in front.
 pub(crate) fn put_header(

@@ -16,6 +16,11 @@ countResult q n = answered C.Refused q (C.Count n)
 abbrev pub acceptResult : ℕ → AcceptResult
 acceptResult q = answered A.Refused q A.Accepted
 
+-- P holds of the count where there is one
+abbrev pub WhereCounted : CountResult → (ℕ → Type 0) → Type 0
+WhereCounted (C.Count n) P = P n
+WhereCounted (C.Refused q) P = Unit {0}
+
 -- an answer's number: 0 where there is a count, else that of the question
 abbrev pub countNumber : CountResult → ℕ
 countNumber (C.Count n) = 0
@@ -30,6 +35,11 @@ countOr before (C.Refused q) = before
 abbrev pub ifCounted : List ℕ → List ℕ → CountResult → List ℕ
 ifCounted before value (C.Count n) = value
 ifCounted before value (C.Refused q) = before
+
+-- P holds where the input is taken
+abbrev pub WhereAccepted : AcceptResult → Type 0 → Type 0
+WhereAccepted A.Accepted P = P
+WhereAccepted (A.Refused q) P = Unit {0}
 
 -- an answer's number: 0 where the input is taken, else that of the question
 abbrev pub acceptNumber : AcceptResult → ℕ

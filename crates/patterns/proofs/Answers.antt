@@ -28,14 +28,10 @@ module _ (s out : List ℕ) where
   abbrev Detected : CountResult → List ℕ → Type 0
   Detected r l = (r ≡ patternsAnswer s out) × ((l ≡ patternsOutput s out) × Promised r l)
 
-  -- a refusal counts nothing
-  none-shown : {pattern q : ℕ} {P : ℕ → ℕ → ℕ → Type 0} → Shows pattern P (Refused q) out
-  none-shown n e = let z : _≡_ {A = ℕ} 0 1 = cc in absurd (omega arith)
-
   refuses : {q : ℕ} → q ≡ patternsQuestion s out → (q ≡ 0 → ⊥) → Detected (Refused q) out
   unfolding patternsAnswer patternsOutput
   refuses asked fails =
-      left-refused Refused (Count (length (entries s))) Promised (entryNumbers (entries s)) out (λ k. (none-shown, none-shown)) asked fails
+      left-refused Refused (Count (length (entries s))) Promised (entryNumbers (entries s)) out (λ k. (tt, tt)) asked fails
 
   pub too-long : atMost65535 (length s) ≡ false → Detected (Refused 31) out
   unfolding patternsQuestion patternsQuestions
@@ -49,7 +45,7 @@ module _ (s out : List ℕ) where
     -- a count counts all entries
     shows : {pattern n : ℕ} {P : ℕ → ℕ → ℕ → Type 0} {l : List ℕ} → n ≡ length (entries s) → l ≡ atFront (entryNumbers (entries s)) out
         → Shown pattern P (length (entries s)) (atFront (entryNumbers (entries s)) out) → Shows pattern P (Count n) l
-    shows {n = n} count front shown k e = let c : k ≡ n = cc in rw (c ∙ count, front) shown
+    shows count front shown = rw (count, front) shown
 
     pub all-fit : {n : ℕ} {l : List ℕ} → 4 * length (entries s) ≤ length out → PutEntries (entries s) out 0 l n → Detected (Count n) l
     unfolding patternsAnswer patternsOutput patternsQuestion patternsQuestions atFront

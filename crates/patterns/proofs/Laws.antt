@@ -12,7 +12,7 @@ use lib.ListN.{length, getD}
 use Rattle.patterns.specs.declared.Entry.{Entry}
 use Rattle.patterns.specs.Stretches.{Stretch, stretch, stretches}
 use Rattle.patterns.specs.Entries.{entry, when, mark, last, paddingLength, padding, printable, text, texts, hasZeros, hasSequence, entries, numbersOf, entryNumbers}
-use Rattle.patterns.specs.Laws.{numbersAt, Shown, Padding, Text}
+use Rattle.patterns.specs.Laws.{numbersAt, EntryAt, Shown, Padding, Text}
 use Rattle.patterns.proofs.Stretches.{each, every}
 use Rattle.patterns.proofs.Paddings.{padding-is, padding-only}
 
@@ -75,19 +75,19 @@ shown : (pattern : ℕ) (P : ℕ → ℕ → ℕ → Type 0) (es : List Entry) (
     → Shown pattern P (length es) (entryNumbers es ++ rest)
 shown pattern P es rest h = record { each = each-number; every = every-number }
   where
-    each-number : (k i m v : ℕ) → k < length es → numbersAt (entryNumbers es ++ rest) k ≡ pattern ∷ i ∷ m ∷ v ∷ [] → P i m v
-    each-number k i m v less e =
-        let w = at-place rest es k less in
-        let same : numbersOf (w .one) ≡ pattern ∷ i ∷ m ∷ v ∷ [] = sym (w .numbered) ∙ e in
+    each-number : (k i m v : ℕ) → EntryAt pattern (length es) (entryNumbers es ++ rest) k i m v → P i m v
+    each-number k i m v at =
+        let w = at-place rest es k (at .0) in
+        let same : numbersOf (w .one) ≡ pattern ∷ i ∷ m ∷ v ∷ [] = sym (w .numbered) ∙ at .1 in
         let a : w .one .start ≡ i = ap (λ (l : List ℕ). getD l 1 0) same in
         let b : w .one .length ≡ m = ap (λ (l : List ℕ). getD l 2 0) same in
         let c : w .one .value ≡ v = ap (λ (l : List ℕ). getD l 3 0) same in
         rw (a, b, c) at (h .each-one (w .one) (w .member) (ap (λ (l : List ℕ). getD l 0 0) same))
 
-    every-number : (i m v : ℕ) → P i m v → (k : ℕ) × (k < length es) × (numbersAt (entryNumbers es ++ rest) k ≡ pattern ∷ i ∷ m ∷ v ∷ [])
+    every-number : (i m v : ℕ) → P i m v → (k : ℕ) × EntryAt pattern (length es) (entryNumbers es ++ rest) k i m v
     every-number i m v p =
         let w = place-of rest es (entry pattern i m v) (h .every-one i m v p) in
-        (w .place, w .less, w .numbered)
+        (w .place, (w .less, w .numbered))
 
 -- padding, texts, marks
 

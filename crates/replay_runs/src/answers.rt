@@ -1,7 +1,7 @@
 // How the finder's answers are printed.
 use replay_cases::print;
-use run_finder::FrameFound;
-use run_finder::Report;
+use run_search::FrameFound;
+use run_search::Report;
 
 // Prints a report.
 fn print_report(report: Report) {

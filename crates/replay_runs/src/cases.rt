@@ -5,7 +5,7 @@ use crc::CheckRule;
 use replay_cases::input;
 use replay_cases::print;
 use replay_cases::spelling;
-use run_finder::FrameFound;
+use run_search::FrameFound;
 ghost use Prim.Native.Nat.{_≤_};
 ghost use mathlib.Core.Path.{_≡_};
 ghost use lib.ListN.{length};

@@ -1,5 +1,11 @@
-pub mod Acceptables
-pub mod Searches
-pub mod Sizes
-pub mod Turns
+pub mod Filled
+pub mod Finds
 pub mod Next
+pub mod Frames
+pub mod Pass
+pub mod Late
+pub mod Anew
+pub mod Demand
+pub mod Calls
+pub mod Examples
+pub mod Answers

@@ -7,12 +7,13 @@ use native.Mathlib.Omega.{arith}
 use lib.ListN.{length, drop, length-take, length-drop}
 use Rattle.octets.proofs.Parts.{Octets, octets-drop}
 use Rattle.crc.specs.declared.CheckRule.{CheckRule}
-use Rattle.run_finder.specs.declared.FrameFound.{FrameFound}
-use Rattle.run_finder.specs.declared.FrameFound.the-variants.{Frame, None, Refused}
-use Rattle.run_finder.specs.Search.{report, searchFrom, sizeAt, placeOr, nextFrame}
-use Rattle.run_finder.proofs.Acceptables.{front-size}
-use Rattle.run_finder.proofs.Searches.{search-plain, search-answers}
-use Rattle.run_finder.proofs.Sizes.{size-own}
+use Rattle.run_search.specs.declared.FrameFound.{FrameFound}
+use Rattle.run_search.specs.declared.FrameFound.the-variants.{Frame, None, Refused}
+use Rattle.run_search.specs.Search.{report, searchFrom, sizeAt, placeOr, nextFrame}
+use Rattle.run_search.proofs.Acceptables.{front-size}
+use Rattle.run_search.proofs.Searches.{search-answers}
+use Rattle.run_finder.proofs.Finds.{search-plain}
+use Rattle.run_search.proofs.Sizes.{size-own}
 
 -- the search from a place finds the frame at p, or none where p is the end
 pub record Next (rule : CheckRule) (run : List ℕ) (place p : ℕ) : Type 0 where

@@ -6,11 +6,11 @@ use mathlib.Core.List.{List}
 use Prim.Native.Nat.{ℕ, suc, _-_, _≤_, _<_}
 use lib.ListN.{length, take, drop}
 use Rattle.crc.specs.declared.CheckRule.{CheckRule}
-use Rattle.run_finder.specs.declared.Report.{Report}
-use Rattle.run_finder.specs.declared.FrameFound.{FrameFound}
-use Rattle.run_finder.specs.declared.FrameFound.the-variants.{Frame, None}
-use Rattle.run_finder.specs.Acceptable.{acceptable}
-use Rattle.run_finder.specs.Search.{endOf, searchFrom}
+use Rattle.run_search.specs.declared.Report.{Report}
+use Rattle.run_search.specs.declared.FrameFound.{FrameFound}
+use Rattle.run_search.specs.declared.FrameFound.the-variants.{Frame, None}
+use Rattle.run_search.specs.Acceptable.{acceptable}
+use Rattle.run_search.specs.Search.{endOf, searchFrom}
 
 -- no acceptable frame starts at a place of the run, of however many octets
 abbrev pub NoneAt : CheckRule → List ℕ → ℕ → Type 0

@@ -1,4 +1,6 @@
-pub mod Acceptable
-pub mod Search
+pub mod Find
 pub mod Found
-pub mod Steps
+pub mod Reading
+pub mod Demand
+pub mod Calls
+pub mod Example

@@ -14,17 +14,15 @@ use Rattle.octets.proofs.Parts.{Octets, length-flat}
 use Rattle.octets.proofs.Questions.{passed, failed, none-fails, answered-value, refusal}
 use Rattle.crc.specs.declared.CheckRule.{CheckRule}
 use Rattle.octets.specs.Size.{atMost65535}
-use Rattle.run_finder.specs.declared.Report.{Report}
+use Rattle.run_search.specs.declared.Report.{Report}
 use Rattle.octets.specs.declared.CountResult.{CountResult}
 use Rattle.octets.specs.declared.CountResult.the-variants.{Count, Refused}
-use Rattle.run_reading.specs.Reading.{WholeReading, reading}
-use Rattle.run_finder.specs.Search.{reportNumbers}
-use Rattle.run_reading.specs.Answer.{countAnswer, CountOf, listNumbers, readQuestion, readAnswer, readOutput, reportsIn, Handed}
-use Rattle.run_reading.specs.Demand.{Demand3}
-use Rattle.run_reading.specs.Example.{Example}
-use Rattle.run_reading.proofs.Pass.{whole-reading}
-use Rattle.run_reading.proofs.Demand.{demand-3}
-use Rattle.run_reading.proofs.Examples.{example}
+use Rattle.run_finder.specs.Reading.{WholeReading, reading}
+use Rattle.run_search.specs.Search.{reportNumbers}
+use Rattle.run_reading.specs.Answer.{countAnswer, CountOf, listNumbers, readQuestion, readAnswer, readOutput, reportsIn, Handed, Counted}
+use Rattle.run_finder.specs.Demand.{Demand3}
+use Rattle.run_finder.proofs.Pass.{whole-reading}
+use Rattle.run_finder.proofs.Demand.{demand-3}
 
 -- a list's numbers are two for each report, and the reports whose numbers stand in front of a list are those that were written there
 length-numbers : (rs : List Report) → length (listNumbers rs) ≡ 2 * length rs
@@ -36,27 +34,19 @@ unfolding listNumbers flatMap
 reports-back [] rest = refl
 reports-back (r ∷ rs) rest = ap (λ (l : List Report). r ∷ l) (reports-back rs rest)
 
--- a refusal is no count
-no-count : {A : Type 0} {q n : ℕ} → Refused q ≡ Count n → A
-no-count e = let z : _≡_ {A = ℕ} 0 1 = cc in absurd (omega arith)
-
--- two counts that are the same count the same
-same-count : {m n : ℕ} → Count m ≡ Count n → m ≡ n
-same-count e = cc
-
 module _ (rule : CheckRule) (run : List ℕ) (octets : Octets run) where
   abbrev reports : List Report
   reports = reading rule run
 
   -- of `count_frames`: the answer, and the promises
   abbrev CountMeets : CountResult → Type 0
-  CountMeets r = (r ≡ countAnswer rule run) × (CountOf (WholeReading rule run) r × (Demand3 rule run r reports × Example))
+  CountMeets r = (r ≡ countAnswer rule run) × (CountOf (WholeReading rule run) r × (Counted rule run r × Demand3 rule run reports))
 
   pub count-refused : atMost65535 (length run) ≡ false → CountMeets (Refused 31)
   unfolding countAnswer
   count-refused long = (
     refusal Refused (Count (length reports)) (failed 31 _ long) (λ z. omega arith),
-    (λ n e. no-count e, (demand-3 rule run octets (λ fits. absurd (omega (arith, leb-false (length run) 65535 long))), example)),
+    (tt, (λ passed. absurd (omega (arith, leb-true (length run) 65535 passed, leb-false (length run) 65535 long)), demand-3 rule run octets)),
   )
 
   pub counted : {n : ℕ} → atMost65535 (length run) ≡ true → n ≡ length reports → CountMeets (Count n)
@@ -64,15 +54,15 @@ module _ (rule : CheckRule) (run : List ℕ) (octets : Octets run) where
   counted {n} fits all = (
     ap Count all ∙ sym (answered-value Refused (Count (length reports)) (none-fails _ (fits, tt))),
     (
-      λ k e. (reports, whole-reading rule run (leb-true (length run) 65535 fits) octets, sym all ∙ same-count e),
-      (demand-3 rule run octets (λ _. ap Count all), example),
+      (reports, whole-reading rule run (leb-true (length run) 65535 fits) octets, sym all),
+      (λ passed. ap Count all, demand-3 rule run octets),
     ),
   )
 
   -- of `read_frames`: the answer, the lent list afterwards, and the promises
   module _ (out : List ℕ) where
     abbrev Promised : CountResult → List ℕ → Type 0
-    Promised r l = Handed (WholeReading rule run) r l × Handed (Demand3 rule run r) r l
+    Promised r l = Handed (WholeReading rule run) r l × Handed (Demand3 rule run) r l
 
     abbrev ReadMeets : CountResult → List ℕ → Type 0
     ReadMeets r l = (r ≡ readAnswer rule run out) × ((l ≡ readOutput rule run out) × Promised r l)
@@ -80,7 +70,7 @@ module _ (rule : CheckRule) (run : List ℕ) (octets : Octets run) where
     refuses : {q : ℕ} → q ≡ readQuestion rule run out → (q ≡ 0 → ⊥) → ReadMeets (Refused q) out
     unfolding readAnswer readOutput
     refuses asked fails =
-        left-refused Refused (Count (length reports)) Promised (listNumbers reports) out (λ k. (λ n e. no-count e, λ n e. no-count e)) asked fails
+        left-refused Refused (Count (length reports)) Promised (listNumbers reports) out (λ k. (tt, tt)) asked fails
 
     pub read-refused : atMost65535 (length run) ≡ false → ReadMeets (Refused 31) out
     unfolding readQuestion
@@ -96,9 +86,9 @@ module _ (rule : CheckRule) (run : List ℕ) (octets : Octets run) where
       -- P holds of the reports that were handed over where it holds of all
       handed : (P : List Report → Type 0) {l : List ℕ} → l ≡ atFront (listNumbers reports) out → P reports → Handed P (Count n) l
       unfolding atFront
-      handed P front holds k e =
+      handed P front holds =
           subst P
-          (sym (ap₂ (λ (i : ℕ) (s : List ℕ). reportsIn i s) (sym (same-count e) ∙ all) front ∙ reports-back reports (drop (length (listNumbers reports)) out)))
+          (sym (ap₂ (λ (i : ℕ) (s : List ℕ). reportsIn i s) all front ∙ reports-back reports (drop (length (listNumbers reports)) out)))
           holds
 
       -- where all reports fit, those that fit are all
@@ -110,5 +100,5 @@ module _ (rule : CheckRule) (run : List ℕ) (octets : Octets run) where
           let none : readQuestion rule run out ≡ 0 = none-fails _ (fits, (le-leb (length (listNumbers reports)) (length out) fit, tt)) in
           left-written Refused (Count (length reports)) Promised (listNumbers reports) out none (ap Count all) front (
             handed (WholeReading rule run) front (whole-reading rule run (leb-true (length run) 65535 fits) octets),
-            handed (Demand3 rule run (Count n)) front (demand-3 rule run octets (λ _. ap Count all)),
+            handed (Demand3 rule run) front (demand-3 rule run octets),
           )

@@ -13,14 +13,15 @@ use Rattle.octets.specs.Output.{atFront}
 use Rattle.octets.proofs.Parts.{Octets}
 use Rattle.octets.proofs.Puts.{put-size, put-front, Putting, putting-start, putting-next, putting-end}
 use Rattle.crc.specs.declared.CheckRule.{CheckRule}
-use Rattle.run_finder.specs.declared.Report.{Report}
-use Rattle.run_finder.specs.declared.FrameFound.the-variants.{Frame, None}
-use Rattle.run_finder.specs.Search.{report, searchFrom, sizeAt, nextFrame, find}
-use Rattle.run_finder.proofs.Searches.{find-search}
+use Rattle.run_search.specs.declared.Report.{Report}
+use Rattle.run_search.specs.declared.FrameFound.the-variants.{Frame, None}
+use Rattle.run_search.specs.Search.{report, searchFrom, sizeAt, nextFrame}
+use Rattle.run_finder.specs.Find.{find}
+use Rattle.run_finder.proofs.Finds.{find-search}
 use Rattle.run_finder.proofs.Next.{Next, next}
-use Rattle.run_reading.specs.Reading.{reading}
+use Rattle.run_finder.specs.Reading.{reading}
 use Rattle.run_reading.specs.Answer.{listNumbers}
-use Rattle.run_reading.proofs.Pass.{rest, rest-find, rest-reading, onward, few-reports}
+use Rattle.run_finder.proofs.Pass.{rest, rest-find, rest-reading, onward, few-reports}
 
 -- the numbers of the first k reports
 abbrev pub firsts : ℕ → List Report → List ℕ

@@ -1,20 +1,21 @@
 -- What the functions for a whole reading answer, and what they leave in the lent list.
 -- Assumes nothing.
 use mathlib.Core.Path.{_≡_}
+use mathlib.Core.Bool.{true}
 use mathlib.Core.List.{List, [], _∷_, flatMap}
 use Prim.Native.Nat.{ℕ, zero, suc}
 use lib.Dec.{leb}
 use lib.ListN.{length, getD, drop}
-use Rattle.octets.specs.Answer.{countResult}
+use Rattle.octets.specs.Answer.{countResult, WhereCounted}
 use Rattle.octets.specs.Output.{writeOutput}
-use Rattle.octets.specs.Question.{ask, firstNo}
+use Rattle.octets.specs.Question.{ask, isYes, firstNo}
 use Rattle.octets.specs.Size.{sizeQuestion}
 use Rattle.octets.specs.declared.CountResult.{CountResult}
 use Rattle.octets.specs.declared.CountResult.the-variants.{Count}
 use Rattle.crc.specs.declared.CheckRule.{CheckRule}
-use Rattle.run_finder.specs.declared.Report.{Report}
-use Rattle.run_finder.specs.Search.{report, reportNumbers}
-use Rattle.run_reading.specs.Reading.{reading}
+use Rattle.run_search.specs.declared.Report.{Report}
+use Rattle.run_search.specs.Search.{report, reportNumbers}
+use Rattle.run_finder.specs.Reading.{reading}
 
 -- counting asks 31 alone, and answers the count of the reports
 unfoldable pub countAnswer : CheckRule → List ℕ → CountResult
@@ -22,7 +23,11 @@ countAnswer rule run = countResult (firstNo (sizeQuestion run ∷ [])) (length (
 
 -- where the answer is a count, it counts reports of which P holds
 abbrev pub CountOf : (List Report → Type 0) → CountResult → Type 0
-CountOf P answer = (n : ℕ) → answer ≡ Count n → (rs : List Report) × P rs × (length rs ≡ n)
+CountOf P answer = WhereCounted answer (λ n. (rs : List Report) × P rs × (length rs ≡ n))
+
+-- every run that passes question 31, as those do that demand 3 speaks of, is counted
+abbrev pub Counted : CheckRule → List ℕ → CountResult → Type 0
+Counted rule run answer = isYes (sizeQuestion run) ≡ true → answer ≡ Count (length (reading rule run))
 
 -- the two numbers of each report, in order
 unfoldable pub listNumbers : List Report → List ℕ
@@ -48,4 +53,4 @@ reportsIn (suc n) list = report (getD list 0 0) (getD list 1 0) ∷ reportsIn n 
 
 -- where the answer is a count, P holds of that many reports in front of the list
 abbrev pub Handed : (List Report → Type 0) → CountResult → List ℕ → Type 0
-Handed P answer list = (n : ℕ) → answer ≡ Count n → P (reportsIn n list)
+Handed P answer list = WhereCounted answer (λ n. P (reportsIn n list))

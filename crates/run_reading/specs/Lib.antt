@@ -1,4 +1,1 @@
-pub mod Reading
 pub mod Answer
-pub mod Demand
-pub mod Example

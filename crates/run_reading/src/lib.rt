@@ -6,10 +6,9 @@ ghost use mathlib.Core.Path.{_≡_};
 ghost use Prim.Native.Nat.{_+_, _*_, _≤_, _<_, _/_};
 ghost use lib.ListN.{length, set, take};
 ghost use Rattle.octets.specs.Output.{atFront};
-ghost use Rattle.run_reading.specs.Reading.{WholeReading, reading};
-ghost use Rattle.run_reading.specs.Answer.{countAnswer, listNumbers, readAnswer, readOutput, CountOf, Handed};
-ghost use Rattle.run_reading.specs.Demand.{Demand3};
-ghost use Rattle.run_reading.specs.Example.{Example};
+ghost use Rattle.run_finder.specs.Reading.{WholeReading, reading};
+ghost use Rattle.run_reading.specs.Answer.{countAnswer, listNumbers, readAnswer, readOutput, CountOf, Counted, Handed};
+ghost use Rattle.run_finder.specs.Demand.{Demand3};
 
 // Stores place and octet count of a frame behind those of n others.
 fn store(out: &mut [u32], n: usize, place: usize, count: usize)
@@ -29,14 +28,14 @@ fn store_reports(rule: CheckRule, run: &[u8], out: &mut [u32]) -> usize
         ≡ atFront (listNumbers (take (length (now (out .entry)) / 2) (reading rule (now (run .entry))))) (now (out .entry)) ⌝ }
 {
     let mut n: usize = 0;
-    let mut p = run_finder::next_frame(rule, run, 0);
+    let mut p = run_search::next_frame(rule, run, 0);
     while p < run.len() {
-        let size = run_finder::size_at(run, p);
+        let size = run_search::size_at(run, p);
         if n < out.len() / 2 {
             store(out, n, p, size);
         }
         n += 1;
-        p = run_finder::next_frame(rule, run, p + size);
+        p = run_search::next_frame(rule, run, p + size);
     }
     n
 }
@@ -56,8 +55,8 @@ fn count_reports(rule: CheckRule, run: &[u8]) -> usize
 pub fn count_frames(rule: CheckRule, run: &[u8]) -> CountResult
     ensures { λ r. ⌜ r ≡ countAnswer rule (now (run .entry)) ⌝ }
     ensures calls { λ r. ⌜ CountOf (WholeReading rule (now (run .entry))) r ⌝ }
-    ensures demand { λ r. ⌜ Demand3 rule (now (run .entry)) r (reading rule (now (run .entry))) ⌝ }
-    ensures example { λ r. ⌜ Example ⌝ }
+    ensures covered { λ r. ⌜ Counted rule (now (run .entry)) r ⌝ }
+    ensures demand { λ r. ⌜ Demand3 rule (now (run .entry)) (reading rule (now (run .entry))) ⌝ }
 {
     if !octets::at_most_65535(run.len()) {
         return CountResult::Refused(31);
@@ -71,7 +70,7 @@ pub fn read_frames(rule: CheckRule, run: &[u8], out: &mut [u32]) -> CountResult
     ensures { λ r. ⌜ r ≡ readAnswer rule (now (run .entry)) (now (out .entry)) ⌝ }
     ensures output { λ r. ⌜ now (out .exit) ≡ readOutput rule (now (run .entry)) (now (out .entry)) ⌝ }
     ensures calls { λ r. ⌜ Handed (WholeReading rule (now (run .entry))) r (now (out .exit)) ⌝ }
-    ensures demand { λ r. ⌜ Handed (Demand3 rule (now (run .entry)) r) r (now (out .exit)) ⌝ }
+    ensures demand { λ r. ⌜ Handed (Demand3 rule (now (run .entry))) r (now (out .exit)) ⌝ }
 {
     if !octets::at_most_65535(run.len()) {
         return CountResult::Refused(31);

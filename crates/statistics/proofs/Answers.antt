@@ -13,7 +13,7 @@ use Rattle.runs.specs.Longest.{longest}
 use Rattle.runs.specs.declared.Run.{Run}
 use Rattle.runs.proofs.Longest.{longest-law}
 use Rattle.statistics.specs.declared.FrameStatistics.{FrameStatistics}
-use Rattle.octets.specs.declared.AcceptResult.the-variants.{Accepted, Refused}
+use Rattle.octets.specs.declared.AcceptResult.the-variants.{Refused}
 use Rattle.statistics.specs.declared.StatisticsAnswer.{StatisticsAnswer}
 use Rattle.statistics.specs.Statistics.{byteDistribution, nullBytes, highBytes, longestRun, frameStatistics}
 use Rattle.statistics.specs.Statistics.{noStatistics, calculated, refused, statisticsQuestion, statistics}
@@ -48,11 +48,8 @@ module _ (s : List ℕ) where
   unfolding statistics statisticsQuestion
   statistics-refused h e = (
     rw e (refusal refused (calculated (frameStatistics s)) (failed 31 [] h) (λ z. omega arith)),
-    (none, (none, (none, none))),
+    (tt, (tt, (tt, tt))),
   )
-    where
-      none : {A : Type 0} → Refused 31 ≡ Accepted → A
-      none e = let z : _≡_ {A = ℕ} 0 1 = cc in absurd (omega arith)
 
   module _ (octets : Octets s) where
     -- the promises hold of the statistics
@@ -66,5 +63,5 @@ module _ (s : List ℕ) where
     statistics-calculated h {t} e =
         let l : Holds t = rw e holds in (
           ap calculated e ∙ acceptance refused (calculated (frameStatistics s)) (passed 31 [] h ended) refl,
-          (λ y. l .0, (λ y. l .1 .0, (λ y. l .1 .1 .0, λ y. l .1 .1 .1))),
+          l,
         )

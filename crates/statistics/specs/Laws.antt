@@ -5,7 +5,7 @@ use mathlib.Core.List.{List, [], _∷_}
 use Prim.Native.Nat.{ℕ, _+_}
 use lib.ListN.{length, getD, drop}
 use Rattle.runs.specs.Longest.{run, Longest}
-use Rattle.octets.specs.declared.AcceptResult.the-variants.{Accepted}
+use Rattle.octets.specs.Answer.{WhereAccepted}
 use Rattle.statistics.specs.declared.FrameStatistics.{FrameStatistics}
 use Rattle.statistics.specs.declared.StatisticsAnswer.{StatisticsAnswer}
 
@@ -16,7 +16,7 @@ total (n ∷ counts) = n + total counts
 
 -- where the statistics were calculated, P holds of them
 abbrev pub Calculates : (FrameStatistics → Type 0) → StatisticsAnswer → Type 0
-Calculates P answer = answer .result ≡ Accepted → P (answer .statistics)
+Calculates P answer = WhereAccepted (answer .result) (P (answer .statistics))
 
 -- all counts add up to the length
 abbrev pub AllCounted : List ℕ → FrameStatistics → Type 0

@@ -7,7 +7,7 @@ use Rattle.octets.specs.Output.{atFront, writeAnswer, writeOutput}
 use Rattle.octets.specs.Range.{within}
 use Rattle.crc.specs.Check.{xorIf, step, steps, octetStep, register, check}
 use Rattle.crc.specs.Rule.{headerCheck, dataCheck}
-use Rattle.mstp_frame.specs.Frame.{encodeFrame}
+use Rattle.mstp_decode.specs.Frame.{encodeFrame}
 use Rattle.mstp_encode.specs.Encode.{encodeQuestions, encodeQuestion, encodeAnswer, encodeOutput}
 use Rattle.bip_header.specs.Function.{functionOf}
 use Rattle.bip_header.specs.Header.{headerQuestions, headerQuestion, messageFunction, messageLength, decode}

@@ -14,7 +14,7 @@ use Rattle.octets.proofs.Tests.{same-test}
 use Rattle.crc.specs.Rule.{dataCheck}
 use Rattle.crc.specs.declared.CheckRule.{CheckRule}
 use Rattle.mstp_frame.specs.Fields.{preamble, frameType, sourceOf, dataLength, headerCheckSent, headerCheckOf, dataPart, dataCheckSent}
-use Rattle.mstp_frame.specs.Frame.{frameSize}
+use Rattle.mstp_frame.specs.Size.{frameSize}
 use Rattle.mstp_decode.specs.Decode.{headerCheckRight, dataCheckRight, checkQuestions, checksQuestion}
 use Rattle.findings.specs.declared.Finding.{Finding}
 use Rattle.findings.specs.Finding.{crcMismatch}

@@ -11,7 +11,7 @@ use Rattle.crc.specs.declared.CheckRule.{CheckRule}
 use Rattle.mstp_frame.specs.Address.{isMaster, isSlave}
 use Rattle.mstp_frame.specs.Fields.{preamble, frameType, destinationOf, sourceOf, dataLength}
 use Rattle.mstp_frame.specs.Fields.{headerCheckSent, headerCheckOf, dataPart, dataCheckSent}
-use Rattle.mstp_frame.specs.Frame.{frameSize}
+use Rattle.mstp_frame.specs.Size.{frameSize}
 use Rattle.findings.specs.declared.Finding.{Finding}
 use Rattle.findings.specs.declared.LinkType.the-variants.{MsTP}
 use Rattle.findings.specs.declared.ValidationResult.{ValidationResult}

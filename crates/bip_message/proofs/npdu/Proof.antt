@@ -14,19 +14,19 @@ started : (c : tie.After-start) → process (c .before .before .before .before .
 started c = sym (c .before .before .process-bvlc-message .ensures) ∙ c .start .given .1
 
 returns : tie.Need-returns
-returns c = part-npdu _ (started (c .before .before))
+returns c = part-npdu _ (λ i. c .before .before .before .before .before .shared-slice-known .given i .fits) (started (c .before .before))
 
 returns-2 : tie.Need-returns-2
 returns-2 c =
-    part-other _ (sym (c .before .before .before .process-bvlc-message .ensures) ∙ c .before .enum-told .given .1) refl
+    part-other _ (sym (c .before .before .before .process-bvlc-message .ensures) ∙ c .before .enum-told .given .1) refl tt
 
 returns-3 : tie.Need-returns-3
 returns-3 c =
-    part-other _ (sym (c .before .before .before .process-bvlc-message .ensures) ∙ c .before .enum-told2 .given .1) refl
+    part-other _ (sym (c .before .before .before .process-bvlc-message .ensures) ∙ c .before .enum-told2 .given .1) refl tt
 
 returns-4 : tie.Need-returns-4
 returns-4 c =
-    part-other _ (sym (c .before .before .before .process-bvlc-message .ensures) ∙ c .before .enum-told3 .given .1) refl
+    part-other _ (sym (c .before .before .before .process-bvlc-message .ensures) ∙ c .before .enum-told3 .given .1) refl tt
 
 sub-result : tie.Need-sub-result
 sub-result c = omega (arith, within _ (started (c .before)))

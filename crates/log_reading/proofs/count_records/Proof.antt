@@ -8,10 +8,12 @@ use borrow.Author.Needs.{needs}
 use Rattle.log_record.specs.Read.{readRecord}
 use Rattle.log_reading.specs.Reading.{andOn, listed, countAnswer, CountsBack}
 use Rattle.log_reading.specs.Written.{ReadsWritten}
+use Rattle.log_reading.specs.Example.{Example}
 use Rattle.log_reading.specs.declared.RecordsCounted.{RecordsCounted}
 use Rattle.log_record.specs.declared.RecordRead.the-variants.{Record}
 use Rattle.log_reading.proofs.Reading.{Past, past-start, past-next, past-last, starts-before, counts-back}
 use Rattle.log_reading.proofs.Written.{reads-written}
+use Rattle.log_reading.proofs.Examples.{example}
 use Rattle.log_reading.proofs.count_records.Statement.{statement}
 use Rattle.log_reading.proofs.count_records.Tie as tie
 
@@ -27,7 +29,7 @@ read c = sym (c .before .before .read-record .ensures .0) ∙ c .last .given .1
 
 -- what the contract promises
 abbrev Promised : List ℕ → ℕ → RecordsCounted → Type 0
-Promised log end r = (r ≡ countAnswer log end) × (CountsBack log end r × ReadsWritten log end r)
+Promised log end r = (r ≡ countAnswer log end) × (CountsBack log end r × (ReadsWritten log end r × Example))
 
 -- it holds, from an answer that is no record
 ended : (c : tie.After-read-record Inv-loop μ-loop)
@@ -35,7 +37,8 @@ ended : (c : tie.After-read-record Inv-loop μ-loop)
     → Promised (c .before .before .before .args .log .now) (c .before .before .before .args .end) (record { count = c .before .loop .count; last = c .read-record .result })
 ended c none =
     let counted = past-last _ _ _ _ (sym (c .read-record .ensures .0)) none (c .before .loop .inv) in
-    (counted, (counts-back _ _ counted, reads-written _ _ counted))
+    let counts = counts-back _ _ counted in
+    (counted, (counts, (reads-written _ _ counts, example)))
 
 loop-holds : tie.Need-loop-holds Inv-loop μ-loop
 loop-holds c = past-start _ _

@@ -7,7 +7,7 @@ use borrow.Author.Tests.{eq-eqb, ne-eqb, not-true, not-false}
 use lib.ListN.{drop}
 use Rattle.octets.specs.Question.{firstNo}
 use Rattle.octets.proofs.Questions.{passed, failed, ended}
-use Rattle.mstp_frame.specs.Frame.{frameSize}
+use Rattle.mstp_frame.specs.Size.{frameSize}
 use Rattle.mstp_decode.specs.Decode.{checkQuestions, checksQuestion}
 use Rattle.mstp_decode.proofs.checks_question.Statement.{statement}
 use Rattle.mstp_decode.proofs.checks_question.Tie as tie

@@ -5,9 +5,11 @@ use Prim.Native.Nat.{ℕ, _≤_}
 use borrow.Author.Tests.{leb-true, leb-false, not-true, not-false}
 use lib.ListN.{length}
 use Rattle.octets.proofs.Parts.{Octets}
-use Rattle.run_finder.specs.declared.FrameFound.the-variants.{Frame}
-use Rattle.run_finder.specs.Search.{report, searchFrom, find}
-use Rattle.run_finder.proofs.Searches.{answers, too-long, beyond, find-search}
+use Rattle.run_search.specs.declared.FrameFound.the-variants.{Frame}
+use Rattle.run_search.specs.Search.{report, searchFrom}
+use Rattle.run_finder.specs.Find.{find}
+use Rattle.run_finder.proofs.Answers.{answers}
+use Rattle.run_finder.proofs.Finds.{too-long, beyond, find-search}
 use Rattle.run_finder.proofs.Next.{Next, next}
 use borrow.Author.Needs.{needs}
 use Rattle.run_finder.proofs.find_frame.Statement.{statement}

@@ -10,8 +10,8 @@ use borrow.Author.Tests.{leb-true, not-true, not-false}
 use lib.ListN.{length}
 use Rattle.octets.specs.Size.{atMost65535}
 use Rattle.octets.proofs.Parts.{Octets}
-use Rattle.run_reading.specs.Reading.{reading}
-use Rattle.run_reading.proofs.Pass.{few-reports}
+use Rattle.run_finder.specs.Reading.{reading}
+use Rattle.run_finder.proofs.Pass.{few-reports}
 use Rattle.run_reading.proofs.Answers.{read-refused, no-room, read}
 use Rattle.run_reading.proofs.read_frames.Statement.{statement}
 use Rattle.run_reading.proofs.read_frames.Tie as tie

@@ -2,7 +2,7 @@
 -- Assumes nothing.
 use mathlib.Core.Path.{_∙_}
 use native.Mathlib.Omega.{arith}
-use Rattle.run_finder.specs.Search.{find}
+use Rattle.run_finder.specs.Find.{find}
 use Rattle.answers.specs.Told.{foundNumber, foundReport}
 use Rattle.lefkanu.proofs.Cases.{no-rule, under}
 use borrow.Author.Needs.{needs}

@@ -11,7 +11,7 @@ returns : tie.Need-returns
 returns c =
     let e = c .before .before .process-bvlc-message .ensures in
     let carried = c .tell-message .ensures .1 ∙ ap (messageCarried _ _) e in
-    (c .tell-message .ensures .0 ∙ ap messageNumber e, (carried, λ start told. rw carried (npdu-named _ _ start told)))
+    (c .tell-message .ensures .0 ∙ ap messageNumber e, (carried, rw carried (npdu-named _ _)))
 
 pub lefkanu-process-bvlc-message-spec : {M : Type 1} → statement M
 lefkanu-process-bvlc-message-spec =

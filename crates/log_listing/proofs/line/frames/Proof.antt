@@ -16,12 +16,12 @@ unfolding frames
 returns-2 c =
     let called = c .before .before .before in
     rw (eq-eqb _ 1 (called .before .if1 .left))
-    (same-count _ (called .before .before .before .pre) (called .count-frames .ensures .0) (c .before .count .given .1))
+    (same-count _ (called .before .before .before .pre) (called .count-frames .ensures .1 .1 .0) (c .before .count .given .1))
 
 returns-3 : tie.Need-returns-3
 returns-3 c =
     let called = c .before .before in
-    no-refusal _ (called .before .before .before .pre) (called .count-frames .ensures .0) (c .enum-told .given .1)
+    no-refusal _ (called .before .before .before .pre) (called .count-frames .ensures .1 .1 .0) (c .enum-told .given .1)
 
 pub frames-spec : {M : Type 1} → statement M
 frames-spec =

@@ -37,6 +37,7 @@ use denote.Triple.Spec.{Meets, tripleOf}
 use denote.Triple.Table.{entered}
 use denote.Triple.Walked.{says, Stays, stay-dropped, walkOf, goes-dropped, ends-at, walked, walk-meets}
 use denote.Exit.{yes}
+use Rattle.run_finder.specs.Calls.{none}
 use Rattle.run_reader.specs.declared.FrameReader.{FrameReader}
 use Rattle.run_reader.proofs.FrameReader as T
 use Rattle.run_reader.proofs.FrameReader.Laws as T′
@@ -81,7 +82,7 @@ module _ {M : Type 1} (𝓤 : URA M) (H : Heap 𝓤) (A : Atoms 𝓤) (W : Given
           (init ! 2 refl (tt, (typed .1, (record { fits = lit< tt }, tt)))) $
           returns ! (look ! 2 refl) $ forget ! 0 refl $ forget ! 2 refl $ move ! (2 ∷ 3 ∷ []) $ free1 ! $ free1 ! $ free0 ! $
           suffices ! _ (ends-at 𝓤 H A new.ended stayed c W (((κ, tt), (q, tt), tt, (s, tt), at), tt) (T′.lowered made) made (tt, tt) (tt, tt)) $
-          says ! (refl, refl) $ frame ! $ fsplit ! $ nothing ! $ nothing ! $ fjoin ! $ frame ! $
+          says ! (refl, refl, λ rule. none) $ frame ! $ fsplit ! $ nothing ! $ nothing ! $ fjoin ! $ frame ! $
           -- [what run owns; true]: what the fields own together, of it and of place's facts, is what the reader owns
           move ! (1 ∷ []) $ owned ! usize (Is usize) (uint-makes 𝓤 H A W w64) 0 _ (refl, lit< tt) $ fjoin ! $ move ! (1 ∷ 0 ∷ []) $ fjoin ! $
           by ! (own-shut 𝓤 H A W (T.the-type α) (T′.the-laws α) (s, (0, tt)))))

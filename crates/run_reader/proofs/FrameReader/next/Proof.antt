@@ -49,8 +49,9 @@ use denote.Exit.{yes}
 use Rattle.crc.specs.declared.CheckRule.{CheckRule}
 use Rattle.crc.proofs.CheckRule as K
 use Rattle.crc.proofs.CheckRule.Laws as K′
-use Rattle.run_finder.proofs.FrameFound as N
-use Rattle.run_finder.proofs.FrameFound.Laws as N′
+use Rattle.run_search.proofs.FrameFound as N
+use Rattle.run_search.proofs.FrameFound.Laws as N′
+use Rattle.run_finder.specs.Calls.{Calls as Calls′}
 use Rattle.run_reader.specs.Step.{stepOf}
 use Rattle.run_reader.specs.declared.FrameReader.{FrameReader}
 use Rattle.run_reader.specs.declared.Step.{Step}
@@ -58,7 +59,7 @@ use Rattle.run_reader.proofs.FrameReader as T
 use Rattle.run_reader.proofs.FrameReader.Laws as T′
 use Rattle.run_reader.proofs.Step as S
 use Rattle.run_reader.proofs.Step.Laws as S′
-use Rattle.run_reader.proofs.Laws.{atPlace, answer-is, moved-is, stays}
+use Rattle.run_reader.proofs.Laws.{atPlace, answer-is, moved-is, stays, reads}
 use Rattle.run_reader.proofs.Calls.{calls}
 use Rattle.run_reader.proofs.step_at as step
 use Rattle.run_reader.proofs.step_at.Symbol as step-def
@@ -69,10 +70,15 @@ use Rattle.run_reader.proofs.FrameReader.next as next
 use Rattle.run_reader.proofs.FrameReader.next.Statement as stated
 use Rattle.run_reader.proofs.FrameReader.next.Code as code
 
--- both clauses are shown, and P is left
+-- two clauses are shown, and P is left; and three
 says-both : {M : Type 1} {𝓤 : URA M} {H : Heap 𝓤} {A : Atoms 𝓤} {J : Type 0} {W : Given 𝓤 H A} {Γ : List (Item 𝓤)} → J → {φ ψ : Type 0} {P : SProp 𝓤} → φ → ψ
     → Moves J W Γ (prop P) Γ (prop (sep 𝓤 P (sep 𝓤 (fact 𝓤 φ) (fact 𝓤 ψ))))
 says-both {𝓤 = 𝓤} t {φ} {ψ} {P} f g = moves (λ s. suffices t _ (assoc∗ 𝓤 P (fact 𝓤 φ) (fact 𝓤 ψ)) $ says t g $ says t f $ s)
+
+says-three : {M : Type 1} {𝓤 : URA M} {H : Heap 𝓤} {A : Atoms 𝓤} {J : Type 0} {W : Given 𝓤 H A} {Γ : List (Item 𝓤)} → J → {φ ψ χ : Type 0} {P : SProp 𝓤} → φ → ψ → χ
+    → Moves J W Γ (prop P) Γ (prop (sep 𝓤 P (sep 𝓤 (fact 𝓤 φ) (sep 𝓤 (fact 𝓤 ψ) (fact 𝓤 χ)))))
+says-three {𝓤 = 𝓤} t {φ} {ψ} {χ} {P} f g h =
+    moves (λ s. suffices t _ (assoc∗ 𝓤 P (fact 𝓤 φ) (sep 𝓤 (fact 𝓤 ψ) (fact 𝓤 χ))) $ says-both t g h $ says t f $ s)
 
 -- 'a, and the reader's type at it
 abbrev α : Lft → NamedLft
@@ -168,7 +174,7 @@ module _ {M : Type 1} (𝓤 : URA M) (H : Heap 𝓤) (A : Atoms 𝓤) (W : Given
           (init ! 7 refl (tt, record { fits = place-fits was })) $
           move ! (1 ∷ 5 ∷ []) $ use2 W (raw (StepAt .pre to) ⊛ ‵ Own) (apart ruled) $ split ! $
           -- [what `step_at` asks; what the reader owns; its cell; the open borrow; obs; auth; what rule owns; _5; …]
-          calls 𝓤 H A W step.ended (step.clauses 𝓤 H A at-mem run) to (λ (s : Step) _. s ≡ stepOf rule (now (h .run)) (h .place)) (λ s ws. id⊢ 𝓤 _) ! fm known
+          calls 𝓤 H A W step.ended (step.clauses 𝓤 H A at-mem run) to (λ (s : Step) _. (s ≡ stepOf rule (now (h .run)) (h .place)) × Calls′ rule (now (h .run)) (h .place) (s .found)) (λ s ws. id⊢ 𝓤 _) ! fm known
           (and-then ! (load ! (from ! (stop !)) (look ! 13 refl)) (and-then ! (load ! (from ! (stop !)) (look ! 9 refl))
           (and-then ! (load ! (from ! (stop !)) (look ! 7 refl)) (no-more !)))) (λ u s ws is e. move ! (1 ∷ []) $ drop ! $
           land ! (from ! (stop !)) (init ! 11 refl (LL.lawful S.the-type S′.the-laws 𝓤 H A W .typed s _ is .0)) $
@@ -188,7 +194,7 @@ module _ {M : Type 1} (𝓤 : URA M) (H : Heap 𝓤) (A : Atoms 𝓤) (W : Given
           move ! (15 ∷ 16 ∷ []) $ free1 ! $ move ! (13 ∷ 14 ∷ []) $ free1 ! $ move ! (11 ∷ 12 ∷ []) $ free1 ! $
           move ! (9 ∷ 10 ∷ []) $ free1 ! $ move ! (7 ∷ 8 ∷ []) $ free1 ! $ move ! (5 ∷ 6 ∷ []) $ free1 ! $ free0 ! $
           suffices ! _ (ends-at 𝓤 H A next.ended stayed c W y _ (s .found) (atPlace h (s .next), (tt, tt)) (tt, (tt, tt))) $
-          says-both ! (answer-is rule h s e, moved-is rule h s e) (stays rule h s e) $ move ! (2 ∷ 3 ∷ []) $ join ! $ frame ! $
+          says-three ! (answer-is rule h s (e .0), moved-is rule h s (e .0)) (stays rule h s (e .0)) (reads rule h s (e .0) (e .1)) $ move ! (2 ∷ 3 ∷ []) $ join ! $ frame ! $
           feqI ! (List Val) (vptr b o ∷ []) (vptr b o ∷ []) refl $ fjoin3 ! $ nothing ! $ nothing ! $ fjoin ! $ move ! (1 ∷ 0 ∷ []) $ fjoin ! $
           frame ! $ drop ! $ owned ! N.the-row (Is N.the-row) (EL.makes N.the-type N′.the-plain 𝓤 H A) (s .found) _ (found-is s u is) $ done !)))))))))
         where

@@ -1,0 +1,4 @@
+pub mod Acceptables
+pub mod Searches
+pub mod Sizes
+pub mod Turns
