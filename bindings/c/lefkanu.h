@@ -75,7 +75,7 @@ uint8_t lefkanu_data_link_error(uint8_t question);
 
 /* The check octets. */
 
-/* The header check of the five octets behind the preamble. */
+/* The header check of the five octets after the preamble. */
 uint8_t lefkanu_calculate_header_crc(uint8_t rule, const uint8_t header[5], uint8_t *crc);
 
 /* The data check of any octets. */
@@ -167,7 +167,7 @@ uint8_t lefkanu_read_frames(uint8_t rule, const uint8_t *run, size_t run_octets,
    44. */
 uint8_t lefkanu_read_record(const uint8_t *log, size_t log_octets, size_t end, size_t record[3]);
 
-/* Writes a record behind the first `used` octets of a buffer, and nothing else; new_used: how many are used now.
+/* Writes a record after the first `used` octets of a buffer, and nothing else; new_used: how many are used now.
    Questions 47, 42, 43 and 46. */
 uint8_t lefkanu_append(uint8_t *buffer, size_t buffer_octets, size_t used, uint8_t kind, const uint8_t *payload,
                        size_t payload_octets, size_t *new_used);

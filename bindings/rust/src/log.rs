@@ -1,4 +1,4 @@
-//! The log: records, each with its kind and length behind it.
+//! The log: records, each with its kind and length after it.
 
 use crate::error::{DataLinkError, Result};
 use crate::raw;
@@ -53,7 +53,7 @@ pub fn read_record(log: &[u8], end: usize) -> Result<Option<Record<'_>>> {
     }))
 }
 
-/// Writes a record behind the first `used` octets of a buffer, and nothing else; answers how many are used now. Refused
+/// Writes a record after the first `used` octets of a buffer, and nothing else; answers how many are used now. Refused
 /// with 47, 43 or 46, and then nothing is written.
 ///
 /// ```

@@ -5,7 +5,7 @@ use crate::raw;
 
 /// The address of all stations.
 pub const ETHERNET_BROADCAST_MAC: [u8; 6] = [0xFF; 6];
-/// What stands behind the addresses, where clause 7 has a length.
+/// What stands after the addresses, where clause 7 has a length.
 pub const BACNET_ETHERNET_TYPE: u16 = 0x82DC;
 /// The LLC header of BACnet.
 pub const BACNET_LLC_HEADER: [u8; 3] = [0x82, 0x82, 0x03];

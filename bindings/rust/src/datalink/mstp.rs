@@ -204,7 +204,7 @@ pub fn encode_into(
     raw::mstp_encode(rule, frame_type, destination, source, data, out)
 }
 
-/// The header check of the five octets behind the preamble.
+/// The header check of the five octets after the preamble.
 ///
 /// ```
 /// use lefkanu::{datalink::mstp::calculate_header_crc, CheckRule};
