@@ -6,9 +6,17 @@
 
    Answers: 0 where there is a result, and then it stands in the lent memory. Else the number of the first of document
    01's questions that fails, LEFKANU_NONE, or, before any question is asked, LEFKANU_NO_CASE where a number names no rule,
-   type or function; then nothing was written.
+   type or function; then nothing was written. Only lefkanu_layout_version answers something else.
 
-   Rules: LEFKANU_ANNEX_G or LEFKANU_HOUSE, whose octets are those of bacnet-rs. */
+   Rules: LEFKANU_ANNEX_G or LEFKANU_HOUSE, whose octets are those of bacnet-rs.
+
+   Layout: how many numbers a caller lends by each pointer, and which number stands where. Its version is raised with
+   each change. LEFKANU_LAYOUT_VERSION is the one that a program is compiled for, and lefkanu_layout_version answers that
+   of the library that it is linked with. Where they differ, call no other function, and compile the program anew.
+
+   Version 2: counts has five numbers; the fifth is the start of the longest run. Version 1: counts had four, and there
+   was nothing to ask for a version. What was compiled for it must be compiled anew: it lends four numbers, and a fifth
+   is written after them. */
 #ifndef LEFKANU_H
 #define LEFKANU_H
 
@@ -18,6 +26,10 @@
 #ifdef __cplusplus
 extern "C" {
 #endif
+
+/* The version of the layout: here, and as the library answers it. */
+#define LEFKANU_LAYOUT_VERSION 2
+uint32_t lefkanu_layout_version(void);
 
 /* Rules. */
 #define LEFKANU_ANNEX_G 0
@@ -131,10 +143,12 @@ void lefkanu_validate_ethernet_frame(const uint8_t *frame, size_t frame_octets, 
 /* By the validator of the link that the octets tell. */
 uint8_t lefkanu_validate_frame(uint8_t rule, const uint8_t *frame, size_t frame_octets, size_t result[32]);
 
-/* Statistics: how many octets have each value. counts: how many are 00, how many 80 or more, octet and length of the
-   longest run. Question 31. */
+/* Statistics: how many octets have each value. counts: how many are 00, how many 80 or more, and the longest run of one
+   value: its octet, its length, and its start, the place of its first octet. Of equals it is the first; without octets
+   all are 0. Question 31. */
+#define LEFKANU_COUNT_NUMBERS 5
 uint8_t lefkanu_calculate_frame_statistics(const uint8_t *frame, size_t frame_octets, uint32_t byte_distribution[256],
-                                           size_t counts[4]);
+                                           size_t counts[5]);
 
 /* Patterns: four numbers for each at the front of out, whose rest stays: pattern (1 padding, 2 text, 3 zeros, 4
    sequence), start, length, octet value; count: how many patterns. Questions 31 and 32. */
@@ -143,7 +157,7 @@ uint8_t lefkanu_detect_patterns(const uint8_t *frame, size_t frame_octets, uint3
 
 /* lefkanu_validate_frame, the statistics and the patterns together. Questions 31 and 32. */
 uint8_t lefkanu_analyze_frame(uint8_t rule, const uint8_t *frame, size_t frame_octets, size_t result[32],
-                              uint32_t byte_distribution[256], size_t counts[4], uint32_t *out, size_t out_numbers,
+                              uint32_t byte_distribution[256], size_t counts[5], uint32_t *out, size_t out_numbers,
                               size_t *count);
 
 /* Runs of bus octets. */

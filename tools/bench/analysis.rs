@@ -6,7 +6,7 @@ use bacnet::datalink::validation::{
 };
 use ffi::{
     lefkanu_analyze_frame, lefkanu_calculate_frame_statistics, lefkanu_detect_patterns,
-    RESULT_NUMBERS,
+    COUNT_NUMBERS, RESULT_NUMBERS,
 };
 use shared::rust::analysis as told;
 use shared::rust::findings;
@@ -39,16 +39,21 @@ fn statistics(frame: Octets) -> Row {
     let ours =
         pointer!(lefkanu_calculate_frame_statistics as unsafe extern "C" fn(_, _, _, _) -> _);
     let theirs = pointer!(opened_statistics as fn(&_) -> _);
-    let (distribution, counts) = (lent([0; 256]), lent([0; 4]));
+    let (distribution, counts) = (lent([0; 256]), lent([0; COUNT_NUMBERS]));
     let ours = move || unsafe { ours(frame.as_ptr(), frame.len(), distribution, counts) };
     assert_eq!(ours(), 0, "statistics");
-    compare_statistics(now(distribution), now(counts), &theirs(frame));
+    compare_statistics(frame, now(distribution), now(counts), &theirs(frame));
     Row::both("statistics", frame.len(), ours, move || theirs(frame))
 }
 
 // Panics unless both sides count the same.
-fn compare_statistics(distribution: [u32; 256], counts: [usize; 4], theirs: &FrameStatistics) {
-    let theirs = told::statistics(theirs);
+fn compare_statistics(
+    frame: Octets,
+    distribution: [u32; 256],
+    counts: [usize; COUNT_NUMBERS],
+    theirs: &FrameStatistics,
+) {
+    let theirs = told::statistics(frame, theirs);
     let distribution = distribution.map(|count| count as usize);
     assert_eq!(distribution.to_vec(), theirs.counts, "statistics");
     assert_eq!(counts, theirs.numbers(), "statistics");
@@ -90,7 +95,7 @@ fn analysis(frame: Octets) -> Row {
         pointer!(lefkanu_analyze_frame as unsafe extern "C" fn(_, _, _, _, _, _, _, _, _) -> _);
     let theirs = pointer!(analyze_frame as fn(&_) -> _);
     let result = lent([0; RESULT_NUMBERS]);
-    let (values, counts) = (lent([0; 256]), lent([0; 4]));
+    let (values, counts) = (lent([0; 256]), lent([0; COUNT_NUMBERS]));
     let (out, count) = (lent_list(0, 4 * most(frame)), lent(0));
     let ours = move || unsafe {
         let (octets, size, out) = (frame.as_ptr(), frame.len(), &mut *out);
@@ -103,7 +108,7 @@ fn analysis(frame: Octets) -> Row {
     assert_eq!(ours(), 0, "analysis");
     let findings = findings::told(&analysis.validation);
     assert_eq!(now(result), findings.numbers(), "analysis");
-    compare_statistics(now(values), now(counts), &analysis.statistics);
+    compare_statistics(frame, now(values), now(counts), &analysis.statistics);
     compare_patterns(frame, out, now(count), &analysis.patterns);
     Row::both("analysis", frame.len(), ours, move || theirs(frame))
 }

@@ -91,6 +91,8 @@ fn call(function: Option<&str>, octets: Option<usize>) {
 }
 
 fn main() {
+    let version = unsafe { ffi::lefkanu_layout_version() };
+    assert_eq!(version, ffi::LAYOUT_VERSION, "the layout of liblefkanu.a");
     let arguments: Vec<String> = std::env::args().skip(1).collect();
     let words: Vec<&str> = arguments.iter().map(String::as_str).collect();
     match words[..] {

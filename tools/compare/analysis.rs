@@ -5,12 +5,13 @@ use bacnet::datalink::validation::{
 };
 use ffi::{
     lefkanu_analyze_frame, lefkanu_calculate_frame_statistics, lefkanu_detect_patterns,
-    RESULT_NUMBERS,
+    COUNT_NUMBERS, RESULT_NUMBERS,
 };
 use shared::model::analysis::{self, Analysis};
 use shared::model::patterns::{self, Entry};
 use shared::model::questions::MOST;
-use shared::model::{statistics, validators};
+use shared::model::statistics::{self, Statistics};
+use shared::model::validators;
 use shared::octets::hex;
 use shared::random::Random;
 use shared::rust;
@@ -38,21 +39,38 @@ fn each(count: usize, random: &mut Random, ask: Ask) {
 pub fn frame_statistics(tally: &mut Tally, random: &mut Random) {
     each(RULELESS, random, &mut |random, frame| {
         let mut distribution = Lent::<u32>::new(256, random);
-        let mut counts = Lent::<usize>::new(4, random);
+        let mut counts = Lent::<usize>::new(COUNT_NUMBERS, random);
         let (octets, size) = (frame.as_ptr(), frame.len());
-        let (values, four) = (distribution.array(), counts.array());
-        let answer = unsafe { lefkanu_calculate_frame_statistics(octets, size, values, four) };
+        let (values, others) = (distribution.array(), counts.array());
+        let answer = unsafe { lefkanu_calculate_frame_statistics(octets, size, values, others) };
+        let counted = statistics::count(frame);
+        if let Ok(counted) = &counted {
+            see_run(tally, frame, counted);
+        }
         tally.compare(Call {
             answer,
             lent: &mut [&mut distribution, &mut counts],
-            model: model(statistics::count(frame)),
+            model: model(counted),
             rust: match frame.len() {
-                0..=MOST => Rust::whole(Ok(rust::analysis::statistics(&opened_statistics(frame)))),
+                0..=MOST => {
+                    let told = opened_statistics(frame);
+                    Rust::whole(Ok(rust::analysis::statistics(frame, &told)))
+                }
                 _ => Rust::Silent,
             },
             input: &|| hex(frame),
         });
     });
+}
+
+// Counts the longest runs: in front or later, and with another as long after it.
+fn see_run(tally: &mut Tally, frame: &[u8], counted: &Statistics) {
+    let ((_, length), start) = (counted.longest, counted.start);
+    tally.see(('r', if start == 0 { 1 } else { 2 }, 0));
+    let mut runs = frame[start + length..].chunk_by(|octet, next| octet == next);
+    if runs.any(|run| run.len() == length) {
+        tally.see(('r', 3, 0));
+    }
 }
 
 // The Rust's patterns, if they fit.
@@ -131,19 +149,22 @@ fn analyze(tally: &mut Tally, random: &mut Random, rule: u8, frame: &[u8]) {
     let room = room(frame, random);
     let mut result = Lent::<usize>::new(RESULT_NUMBERS, random);
     let mut distribution = Lent::<u32>::new(256, random);
-    let mut counts = Lent::<usize>::new(4, random);
+    let mut counts = Lent::<usize>::new(COUNT_NUMBERS, random);
     let mut out = Lent::<u32>::new(room, random);
     let mut count = Lent::<usize>::new(1, random);
     let (octets, size) = (frame.as_ptr(), frame.len());
-    let (found, values, four) = (result.array(), distribution.array(), counts.array());
+    let (found, values, others) = (result.array(), distribution.array(), counts.array());
     let (list, counted) = (out.pointer(), count.pointer());
     let answer = unsafe {
-        lefkanu_analyze_frame(rule, octets, size, found, values, four, list, room, counted)
+        lefkanu_analyze_frame(
+            rule, octets, size, found, values, others, list, room, counted,
+        )
     };
     let found = Rule::of(rule).and_then(|rule| analysis::analyze(rule, frame, room));
     if let Ok(analysis) = &found {
         tally.see(('l', analysis.findings.link as usize, 0));
         see(tally, &analysis.patterns);
+        see_run(tally, frame, &analysis.statistics);
     }
     tally.compare(Call {
         answer,
@@ -172,7 +193,7 @@ fn rust_analysis(rule: u8, frame: &[u8], room: usize) -> Option<Rust> {
     let (judge, findings) = rust_findings(rule, frame, &model, validate_frame);
     let analysis = Analysis {
         findings,
-        statistics: rust::analysis::statistics(&told.statistics),
+        statistics: rust::analysis::statistics(frame, &told.statistics),
         patterns,
     };
     Some(judge(Ok(analysis.written())))

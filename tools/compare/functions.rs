@@ -1,6 +1,6 @@
-// Every function of the library: its comparison, and which answers must come up in it.
+// Every function of the library that has input: its comparison, and which answers must come up in it.
 
-use ffi::{NONE, NO_CASE};
+use ffi::{lefkanu_layout_version, LAYOUT_VERSION, NONE, NO_CASE};
 use shared::random::Random;
 
 use crate::tally::Tally;
@@ -10,8 +10,9 @@ pub struct Function {
     // The name behind `lefkanu_`.
     pub name: &'static str,
     // Its answers, and what its results have: e and w an error and a warning by kind and reason, n
-    // a count of errors, l a link, m what a message carries, p a pattern; d1 frames that demand 3
-    // speaks of, d2 a report that reaches from the damage over a head.
+    // a count of errors, l a link, m what a message carries, p a pattern; r1 a longest run in front,
+    // r2 one that starts later, r3 another as long after it; d1 frames that demand 3 speaks of, d2 a
+    // report that reaches from the damage over a head.
     pub answers: &'static [u8],
     pub sights: &'static str,
     pub compare: fn(&mut Tally, &mut Random),
@@ -23,7 +24,8 @@ const ETHERNET_FINDINGS: &str = "e1 e2 e7.2 e7.3 n0 n3 w1 w3.3";
 const ANY_FINDINGS: &str =
     "e1 e2 e4 e5 e6 e7.1 e7.3 e7.4 e8 l0 l1 l2 l3 n0 n6 w1 w3.1 w3.2 w3.3 w4.1 w4.2";
 const PATTERNS: &str = "p1 p2 p3 p4";
-const ANALYSIS: &str = "l0 l1 l2 l3 p1 p2 p3 p4";
+const LONGEST_RUNS: &str = "r1 r2 r3";
+const ANALYSIS: &str = "l0 l1 l2 l3 p1 p2 p3 p4 r1 r2 r3";
 const MESSAGES: &str = "m1 m2 m3";
 const DEMAND_3: &str = "d1 d2";
 
@@ -57,7 +59,7 @@ pub const ALL: &[Function] = functions! {
     "validate_bacnet_ip_frame" [0], IP_FINDINGS, validation::bacnet_ip_frame;
     "validate_ethernet_frame" [0], ETHERNET_FINDINGS, validation::ethernet_frame;
     "validate_frame" [0, NO_CASE], ANY_FINDINGS, validation::any_frame;
-    "calculate_frame_statistics" [0, 31], "", analysis::frame_statistics;
+    "calculate_frame_statistics" [0, 31], LONGEST_RUNS, analysis::frame_statistics;
     "detect_patterns" [0, 31, 32], PATTERNS, analysis::detect_patterns;
     "analyze_frame" [0, 31, 32, NO_CASE], ANALYSIS, analysis::whole_analysis;
     "find_frame" [0, 31, 33, NONE, NO_CASE], "", finder::find_frame;
@@ -66,6 +68,15 @@ pub const ALL: &[Function] = functions! {
     "read_record" [0, 41, 42, 43, 44, 47, NONE], "", log::read_record;
     "append" [0, 42, 43, 46, 47], "", log::append;
 };
+
+// The function that has no input: it is asked once.
+const ASKED_ONCE: &str = "layout_version";
+
+// Panics unless the library has the layout that the driver was built for.
+pub fn try_layout() {
+    let version = unsafe { lefkanu_layout_version() };
+    assert_eq!(version, LAYOUT_VERSION, "the layout of liblefkanu.a");
+}
 
 // Panics unless these are the functions that the library's C header declares.
 pub fn try_names() {
@@ -80,7 +91,8 @@ pub fn try_names() {
                 .all(|letter| letter == '_' || letter.is_ascii_alphanumeric())
         })
         .collect();
-    let mut here: Vec<&str> = ALL.iter().map(|function| function.name).collect();
+    let compared = ALL.iter().map(|function| function.name);
+    let mut here: Vec<&str> = compared.chain([ASKED_ONCE]).collect();
     declared.sort_unstable();
     here.sort_unstable();
     assert_eq!(declared, here, "the functions of lefkanu.h");

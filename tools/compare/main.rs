@@ -53,6 +53,7 @@ fn main() -> ExitCode {
         return usage();
     };
     check::try_examples();
+    functions::try_layout();
     functions::try_names();
     // The script opens descriptor 3, and nothing else here uses it.
     let mut out = unsafe { File::from_raw_fd(3) };

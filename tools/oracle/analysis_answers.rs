@@ -86,7 +86,7 @@ fn compare_findings(rule: Rule, octets: &[u8], findings: &Findings, rust: &Valid
 
 // Panics unless the Rust counted the same.
 fn compare_statistics(octets: &[u8], rust: &FrameStatistics) {
-    let told = rust::analysis::statistics(rust);
+    let told = rust::analysis::statistics(octets, rust);
     assert_eq!(told, Statistics::of(octets), "counting {}", hex(octets));
 }
 
@@ -109,8 +109,8 @@ fn findings_text(findings: &Findings) -> String {
 
 // Statistics.
 fn statistics_text(statistics: &Statistics) -> String {
-    let [zeros, high, octet, length] = statistics.numbers();
-    let mut text = format!(" {zeros:06x} {high:06x} {octet:02x} {length:06x}");
+    let [zeros, high, octet, length, start] = statistics.numbers();
+    let mut text = format!(" {zeros:06x} {high:06x} {octet:02x} {length:06x} {start:06x}");
     for (value, count) in statistics.counts.iter().enumerate() {
         if *count > 0 {
             write!(text, " {value:02x}:{count:06x}").unwrap();

@@ -26,8 +26,9 @@
 //     FINDINGS     V K SSSSSS E W and nine entries, K FFFFFF SSSSSS each: `v` valid or `x`; link
 //                  kind (0 none, 1 IP, 2 Ethernet, 3 MS/TP); size; counts of errors and warnings;
 //                  seven errors, two warnings: kind and two numbers, 0 where unused
-//     STATISTICS   ZZZZZZ HHHHHH RR LLLLLL, then VV:CCCCCC for each octet value that is there:
-//                  zeros; octets of 80 or more; octet and length of the longest run; value, count
+//     STATISTICS   ZZZZZZ HHHHHH RR LLLLLL SSSSSS, then VV:CCCCCC for each octet value that is
+//                  there: zeros; octets of 80 or more; octet, length and start of the longest run;
+//                  value, count
 //     LIST         the lent list, which was a5a5a5a5, and 4 numbers behind it: all of these, or the
 //                  first 60, eight digits each
 

@@ -82,6 +82,8 @@ static uint8_t list_records(uint8_t rule, const uint8_t *log, size_t octets)
 
 int main(int count, char **arguments)
 {
+    if (lefkanu_layout_version() != LEFKANU_LAYOUT_VERSION)
+        return fail("liblefkanu.a has another layout version than lefkanu.h");
     uint8_t rule = LEFKANU_ANNEX_G;
     if (count == 3 && strcmp(arguments[2], "house") == 0)
         rule = LEFKANU_HOUSE;

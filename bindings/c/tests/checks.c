@@ -1,5 +1,11 @@
-/* The errors of questions, and the check octets. */
+/* The version of the layout, the errors of questions, and the check octets. */
 #include "check.h"
+
+static void test_layout(void)
+{
+    begin("layout_version");
+    expect_answer(lefkanu_layout_version() == LEFKANU_LAYOUT_VERSION, 1);
+}
 
 static void test_errors(void)
 {
@@ -35,6 +41,7 @@ static void test_data_crc(uint8_t rule, const char *data, uint16_t expected)
 
 void test_checks(void)
 {
+    test_layout();
     test_errors();
     test_header_crc(LEFKANU_ANNEX_G, "00 10 05 00 00", 0x8C);
     test_header_crc(LEFKANU_HOUSE, "00 10 05 00 00", 0x9A);

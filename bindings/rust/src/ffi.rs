@@ -1,5 +1,8 @@
 //! The functions of the static library, as bindings/c/lefkanu.h has them.
 
+// The version of the layout that is declared here.
+pub const LAYOUT_VERSION: u32 = 2;
+
 // What is answered beside 0 and the numbers of questions.
 pub const NONE: u8 = 0xFE;
 pub const NO_CASE: u8 = 0xFF;
@@ -9,11 +12,14 @@ pub const NPDU: usize = 1;
 pub const TIME_TO_LIVE: usize = 2;
 pub const NO_NPDU: usize = 3;
 
-// How many numbers a validator's result has.
+// How many numbers a validator's result has, and statistics beside the distribution.
 pub const RESULT_NUMBERS: usize = 32;
+pub const COUNT_NUMBERS: usize = 5;
 
 #[link(name = "lefkanu", kind = "static")]
 extern "C" {
+    pub fn lefkanu_layout_version() -> u32;
+
     pub fn lefkanu_data_link_error(question: u8) -> u8;
 
     pub fn lefkanu_calculate_header_crc(rule: u8, header: *const [u8; 5], crc: *mut u8) -> u8;
@@ -109,7 +115,7 @@ extern "C" {
         frame: *const u8,
         frame_octets: usize,
         byte_distribution: *mut [u32; 256],
-        counts: *mut [usize; 4],
+        counts: *mut [usize; COUNT_NUMBERS],
     ) -> u8;
 
     pub fn lefkanu_detect_patterns(
@@ -126,7 +132,7 @@ extern "C" {
         frame_octets: usize,
         result: *mut [usize; RESULT_NUMBERS],
         byte_distribution: *mut [u32; 256],
-        counts: *mut [usize; 4],
+        counts: *mut [usize; COUNT_NUMBERS],
         out: *mut u32,
         out_numbers: usize,
         count: *mut usize,

@@ -5,6 +5,8 @@
 //! check octets take a [`CheckRule`] first, and every error has the number of the first question that failed:
 //! [`DataLinkError`](datalink::DataLinkError) has them all in words.
 //!
+//! If the liblefkanu.a that it is linked with has another layout version than this crate, every function panics.
+//!
 //! ```
 //! use lefkanu::datalink::mstp::MstpFrame;
 //! use lefkanu::{finder::Frames, log::RecordKind, log::Records, CheckRule};

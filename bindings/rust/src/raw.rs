@@ -4,12 +4,15 @@
 //! - a pointer comes with its length: both come from one slice, or the pointer is to an array of the size declared;
 //! - no pointer is null: references and slices have none, an empty slice a dangling one that is not null;
 //! - memory that is written to overlaps no other, and nobody else writes to any of it meanwhile: it is behind `&mut`, or
-//!   a local; the rest is behind `&`.
+//!   a local; the rest is behind `&`;
+//! - the library has the layout that `ffi` declares: `same_layout` asks before the first call.
 //!
 //! The answer FF, for a number that names no rule, type or function, does not come: the numbers are those of the cases
 //! of `CheckRule` (0, 1), `MstpFrameType` (0 to 7) and `BvlcFunction` (00 to 0C), and these are all named.
 //!
 //! Places and counts that are answered lie within the caller's octets.
+
+use std::sync::OnceLock;
 
 use crate::cases::{BvlcFunction, CheckRule, MstpFrameType, RecordKind};
 use crate::error::{DataLinkError, Result};
@@ -24,7 +27,7 @@ pub(crate) type Findings = [usize; ffi::RESULT_NUMBERS];
 /// What the statistics answer, as numbers.
 pub(crate) struct Counts {
     pub(crate) byte_distribution: [u32; 256],
-    pub(crate) counts: [usize; 4],
+    pub(crate) counts: [usize; ffi::COUNT_NUMBERS],
 }
 
 /// What a BVLC message carries, with places in the message.
@@ -32,6 +35,21 @@ pub(crate) enum Carried {
     Npdu { place: usize, count: usize },
     TimeToLive(u16),
     NoNpdu,
+}
+
+/// Panics unless the library has the layout that is declared here.
+fn same_layout() {
+    static VERSION: OnceLock<u32> = OnceLock::new();
+    // SAFETY: nothing is lent.
+    expect_layout(*VERSION.get_or_init(|| unsafe { ffi::lefkanu_layout_version() }));
+}
+
+fn expect_layout(version: u32) {
+    assert_eq!(
+        version,
+        ffi::LAYOUT_VERSION,
+        "liblefkanu.a has another layout version than the crate lefkanu"
+    );
 }
 
 /// The value, if the answer is 0; else the question's error.
@@ -58,6 +76,7 @@ fn given<T>(answer: u8, value: T) -> T {
 }
 
 pub(crate) fn data_link_error(question: u8) -> DataLinkError {
+    same_layout();
     // SAFETY: numbers only.
     match unsafe { ffi::lefkanu_data_link_error(question) } {
         1 => DataLinkError::InvalidFrame(question),
@@ -67,6 +86,7 @@ pub(crate) fn data_link_error(question: u8) -> DataLinkError {
 }
 
 pub(crate) fn calculate_header_crc(rule: CheckRule, header: &[u8; 5]) -> u8 {
+    same_layout();
     let mut crc = 0;
     // SAFETY: `header` has five octets; `crc` is a local.
     let answer = unsafe { ffi::lefkanu_calculate_header_crc(rule as u8, header, &mut crc) };
@@ -74,6 +94,7 @@ pub(crate) fn calculate_header_crc(rule: CheckRule, header: &[u8; 5]) -> u8 {
 }
 
 pub(crate) fn crc16_mstp(rule: CheckRule, data: &[u8]) -> u16 {
+    same_layout();
     let mut crc = 0;
     // SAFETY: pointer and length are of `data`; `crc` is a local.
     let answer =
@@ -82,6 +103,7 @@ pub(crate) fn crc16_mstp(rule: CheckRule, data: &[u8]) -> u16 {
 }
 
 pub(crate) fn mstp_decode(rule: CheckRule, frame: &[u8]) -> Result<[usize; 8]> {
+    same_layout();
     let mut header = [0; 8];
     // SAFETY: pointer and length are of `frame`; `header` is a local of eight numbers.
     let answer =
@@ -97,6 +119,7 @@ pub(crate) fn mstp_encode(
     data: &[u8],
     out: &mut [u8],
 ) -> Result<usize> {
+    same_layout();
     let mut count = 0;
     // SAFETY: pointers and lengths are of `data` and of `out`, which is lent alone; `count` is a local.
     let answer = unsafe {
@@ -116,6 +139,7 @@ pub(crate) fn mstp_encode(
 }
 
 pub(crate) fn bvlc_decode(message: &[u8]) -> Result<[usize; 2]> {
+    same_layout();
     let mut header = [0; 2];
     // SAFETY: pointer and length are of `message`; `header` is a local of two numbers.
     let answer = unsafe { ffi::lefkanu_bvlc_decode(message.as_ptr(), message.len(), &mut header) };
@@ -123,6 +147,7 @@ pub(crate) fn bvlc_decode(message: &[u8]) -> Result<[usize; 2]> {
 }
 
 pub(crate) fn bvlc_encode(function: BvlcFunction, length: u16, out: &mut [u8]) -> Result<usize> {
+    same_layout();
     let mut count = 0;
     // SAFETY: pointer and length are of `out`, which is lent alone; `count` is a local.
     let answer = unsafe {
@@ -138,6 +163,7 @@ pub(crate) fn bvlc_encode(function: BvlcFunction, length: u16, out: &mut [u8]) -
 }
 
 pub(crate) fn process_bvlc_message(message: &[u8]) -> Result<Carried> {
+    same_layout();
     let mut carried = [0; 3];
     // SAFETY: pointer and length are of `message`; `carried` is a local of three numbers.
     let answer =
@@ -155,6 +181,7 @@ pub(crate) fn process_bvlc_message(message: &[u8]) -> Result<Carried> {
 }
 
 pub(crate) fn ethernet_decode(frame: &[u8]) -> Result<([u8; 6], [u8; 6], [usize; 2])> {
+    same_layout();
     let (mut dest_mac, mut src_mac, mut payload) = ([0; 6], [0; 6], [0; 2]);
     // SAFETY: pointer and length are of `frame`; the others are three locals of six, six and two.
     let answer = unsafe {
@@ -170,6 +197,7 @@ pub(crate) fn ethernet_decode(frame: &[u8]) -> Result<([u8; 6], [u8; 6], [usize;
 }
 
 pub(crate) fn ethernet_validate(frame: &[u8]) -> Result<()> {
+    same_layout();
     // SAFETY: pointer and length are of `frame`.
     let answer = unsafe { ffi::lefkanu_ethernet_validate(frame.as_ptr(), frame.len()) };
     answered(answer, ())
@@ -181,6 +209,7 @@ pub(crate) fn ethernet_encode(
     payload: &[u8],
     out: &mut [u8],
 ) -> Result<usize> {
+    same_layout();
     let mut count = 0;
     // SAFETY: the addresses have six octets; pointers and lengths are of `payload` and of `out`, which is lent alone;
     // `count` is a local.
@@ -199,6 +228,7 @@ pub(crate) fn ethernet_encode(
 }
 
 pub(crate) fn validate_mstp_frame(rule: CheckRule, frame: &[u8]) -> Findings {
+    same_layout();
     let mut result = [0; ffi::RESULT_NUMBERS];
     // SAFETY: pointer and length are of `frame`; `result` is a local of the size declared.
     let answer = unsafe {
@@ -208,6 +238,7 @@ pub(crate) fn validate_mstp_frame(rule: CheckRule, frame: &[u8]) -> Findings {
 }
 
 pub(crate) fn validate_bacnet_ip_frame(message: &[u8]) -> Findings {
+    same_layout();
     let mut result = [0; ffi::RESULT_NUMBERS];
     // SAFETY: pointer and length are of `message`; `result` is a local of the size declared.
     unsafe { ffi::lefkanu_validate_bacnet_ip_frame(message.as_ptr(), message.len(), &mut result) };
@@ -215,6 +246,7 @@ pub(crate) fn validate_bacnet_ip_frame(message: &[u8]) -> Findings {
 }
 
 pub(crate) fn validate_ethernet_frame(frame: &[u8]) -> Findings {
+    same_layout();
     let mut result = [0; ffi::RESULT_NUMBERS];
     // SAFETY: pointer and length are of `frame`; `result` is a local of the size declared.
     unsafe { ffi::lefkanu_validate_ethernet_frame(frame.as_ptr(), frame.len(), &mut result) };
@@ -222,6 +254,7 @@ pub(crate) fn validate_ethernet_frame(frame: &[u8]) -> Findings {
 }
 
 pub(crate) fn validate_frame(rule: CheckRule, frame: &[u8]) -> Findings {
+    same_layout();
     let mut result = [0; ffi::RESULT_NUMBERS];
     // SAFETY: pointer and length are of `frame`; `result` is a local of the size declared.
     let answer = unsafe {
@@ -231,8 +264,9 @@ pub(crate) fn validate_frame(rule: CheckRule, frame: &[u8]) -> Findings {
 }
 
 pub(crate) fn calculate_frame_statistics(frame: &[u8]) -> Result<Counts> {
-    let (mut byte_distribution, mut counts) = ([0; 256], [0; 4]);
-    // SAFETY: pointer and length are of `frame`; the others are two locals of 256 and four numbers.
+    same_layout();
+    let (mut byte_distribution, mut counts) = ([0; 256], [0; ffi::COUNT_NUMBERS]);
+    // SAFETY: pointer and length are of `frame`; the others are two locals of the sizes declared.
     let answer = unsafe {
         ffi::lefkanu_calculate_frame_statistics(
             frame.as_ptr(),
@@ -251,6 +285,7 @@ pub(crate) fn calculate_frame_statistics(frame: &[u8]) -> Result<Counts> {
 }
 
 pub(crate) fn detect_patterns(frame: &[u8], out: &mut [u32]) -> Result<usize> {
+    same_layout();
     let mut count = 0;
     // SAFETY: pointers and lengths are of `frame` and of `out`, which is lent alone; `count` is a local.
     let answer = unsafe {
@@ -270,8 +305,9 @@ pub(crate) fn analyze_frame(
     frame: &[u8],
     out: &mut [u32],
 ) -> Result<(Findings, Counts, usize)> {
+    same_layout();
     let (mut result, mut byte_distribution) = ([0; ffi::RESULT_NUMBERS], [0; 256]);
-    let (mut counts, mut count) = ([0; 4], 0);
+    let (mut counts, mut count) = ([0; ffi::COUNT_NUMBERS], 0);
     // SAFETY: pointers and lengths are of `frame` and of `out`, which is lent alone; the others are four locals of the
     // sizes declared.
     let answer = unsafe {
@@ -295,6 +331,7 @@ pub(crate) fn analyze_frame(
 }
 
 pub(crate) fn find_frame(rule: CheckRule, run: &[u8], place: usize) -> Result<Option<[usize; 2]>> {
+    same_layout();
     let mut report = [0; 2];
     // SAFETY: pointer and length are of `run`; `report` is a local of two numbers.
     let answer =
@@ -303,6 +340,7 @@ pub(crate) fn find_frame(rule: CheckRule, run: &[u8], place: usize) -> Result<Op
 }
 
 pub(crate) fn count_frames(rule: CheckRule, run: &[u8]) -> Result<usize> {
+    same_layout();
     let mut count = 0;
     // SAFETY: pointer and length are of `run`; `count` is a local.
     let answer =
@@ -311,6 +349,7 @@ pub(crate) fn count_frames(rule: CheckRule, run: &[u8]) -> Result<usize> {
 }
 
 pub(crate) fn read_frames(rule: CheckRule, run: &[u8], out: &mut [u32]) -> Result<usize> {
+    same_layout();
     let mut count = 0;
     // SAFETY: pointers and lengths are of `run` and of `out`, which is lent alone; `count` is a local.
     let answer = unsafe {
@@ -327,6 +366,7 @@ pub(crate) fn read_frames(rule: CheckRule, run: &[u8], out: &mut [u32]) -> Resul
 }
 
 pub(crate) fn read_record(log: &[u8], end: usize) -> Result<Option<[usize; 3]>> {
+    same_layout();
     let mut record = [0; 3];
     // SAFETY: pointer and length are of `log`; `record` is a local of three numbers.
     let answer = unsafe { ffi::lefkanu_read_record(log.as_ptr(), log.len(), end, &mut record) };
@@ -339,6 +379,7 @@ pub(crate) fn append(
     kind: RecordKind,
     payload: &[u8],
 ) -> Result<usize> {
+    same_layout();
     let mut new_used = 0;
     // SAFETY: pointers and lengths are of `payload` and of `buffer`, which is lent alone; `new_used` is a local.
     let answer = unsafe {

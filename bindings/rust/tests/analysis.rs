@@ -31,18 +31,20 @@ fn text(start: usize, length: usize) -> Pattern {
 
 #[test]
 fn statistics() {
-    for (frame, null_bytes, high_bytes, longest_run) in [
-        ("", 0, 0, (0x00, 0)),
-        ("7F", 0, 0, (0x7F, 1)),
-        ("80 00 FF 00", 2, 2, (0x80, 1)),
-        ("01 02 02 03 03", 0, 0, (0x02, 2)),
-        ("01 02 02 03 03 03", 0, 0, (0x03, 3)),
+    for (frame, null_bytes, high_bytes, longest_run, start) in [
+        ("", 0, 0, (0x00, 0), 0),
+        ("7F", 0, 0, (0x7F, 1), 0),
+        ("80 00 FF 00", 2, 2, (0x80, 1), 0),
+        ("01 02 02 03 03", 0, 0, (0x02, 2), 1),
+        ("01 02 02 03 03 03", 0, 0, (0x03, 3), 3),
+        ("02 02 01 02 02 02", 0, 0, (0x02, 3), 3),
     ] {
         let frame = octets(frame);
         let statistics = calculate_frame_statistics(&frame).unwrap();
         assert_eq!(statistics.null_bytes, null_bytes);
         assert_eq!(statistics.high_bytes, high_bytes);
         assert_eq!(statistics.longest_run, longest_run);
+        assert_eq!(statistics.longest_run_start, start);
         let mut expected = [0; 256];
         frame
             .iter()
@@ -58,6 +60,17 @@ fn statistics_of_the_longest() {
     assert_eq!(longest.byte_distribution[..0xFF], [0; 255]);
     assert_eq!(longest.high_bytes, 65_535);
     assert_eq!(longest.longest_run, (0xFF, 65_535));
+    assert_eq!(longest.longest_run_start, 0);
+    let mut last = [0xFF; 65_535];
+    last[0..65_532]
+        .iter_mut()
+        .step_by(2)
+        .for_each(|octet| *octet = 0x7F);
+    let last = calculate_frame_statistics(&last).unwrap();
+    assert_eq!(
+        (last.longest_run, last.longest_run_start),
+        ((0xFF, 4), 65_531)
+    );
     let refused = calculate_frame_statistics(&[0xFF; 65_536]);
     assert_eq!(refused, Err(Refused(31)));
 }
@@ -157,6 +170,7 @@ fn analysis_follows_the_rule() {
     let analysis = analyze_frame(AnnexG, &token).unwrap();
     assert!(analysis.validation.is_valid);
     assert_eq!(analysis.statistics.longest_run, (0x00, 2));
+    assert_eq!(analysis.statistics.longest_run_start, 5);
     assert_eq!(analysis.patterns, []);
     assert!(!analyze_frame(House, &token).unwrap().validation.is_valid);
 }

@@ -394,6 +394,13 @@ fn at_most_65_535_octets() {
 }
 
 #[test]
+fn the_longest_run_has_its_start() {
+    let statistics = calculate_frame_statistics(&octets("00 41 41")).unwrap();
+    assert_eq!(statistics.longest_run, (0x41, 2));
+    assert_eq!(statistics.longest_run_start, 1);
+}
+
+#[test]
 fn texts_without_their_octets() {
     let text = Pattern::AsciiText {
         start: 0,

@@ -4,9 +4,11 @@ use Prim.Native.Nat.{ℕ}
 use mathlib.Core.List.{List}
 use lib.ListN.{length}
 use Rattle.octets.specs.Question.{answered}
+use Rattle.octets.specs.Answer.{WhereCounted}
 use Rattle.crc.specs.declared.CheckRule.{CheckRule}
 use Rattle.findings.specs.Result.{noResult}
 use Rattle.validation.specs.Frame.{frameResult}
+use Rattle.statistics.specs.declared.FrameStatistics.{FrameStatistics}
 use Rattle.statistics.specs.Statistics.{frameStatistics, noStatistics}
 use Rattle.octets.specs.declared.CountResult.the-variants.{Count, Refused}
 use Rattle.patterns.specs.Entries.{entries}
@@ -32,3 +34,7 @@ refused q = record {
 -- what the analysis answers
 unfoldable pub analysis : CheckRule → List ℕ → List ℕ → FrameAnalysis
 analysis rule s out = answered refused (patternsQuestion s out) (analyzed rule s)
+
+-- where the frame was analyzed, P holds of its statistics
+abbrev pub Analyzes : (FrameStatistics → Type 0) → FrameAnalysis → Type 0
+Analyzes P answer = WhereCounted (answer .patterns) (λ _. P (answer .statistics))

@@ -144,7 +144,7 @@ pub fn tell_ethernet(
 pub fn tell_statistics(
     answer: StatisticsAnswer,
     distribution: &mut [u32; 256],
-    counts: &mut [usize; 4],
+    counts: &mut [usize; 5],
 ) -> u8
     ensures { λ r. ⌜ r ≡ statisticsNumber answer ⌝ }
     ensures distribution { λ r. ⌜ now (distribution .exit) ≡ statisticsDistribution (now (distribution .entry)) answer ⌝ }
@@ -168,7 +168,7 @@ pub fn tell_analysis(
     answer: FrameAnalysis,
     validation: &mut [usize; 32],
     distribution: &mut [u32; 256],
-    counts: &mut [usize; 4],
+    counts: &mut [usize; 5],
     count: &mut usize,
 ) -> u8
     ensures { λ r. ⌜ r ≡ analysisNumber answer ⌝ }

@@ -15,7 +15,7 @@ ghost use Rattle.answers.specs.Told.{analysisCount, analysisResult, analysisDis
 pub extern "C" fn lefkanu_calculate_frame_statistics(
     frame: &[u8],
     byte_distribution: &mut [u32; 256],
-    counts: &mut [usize; 4],
+    counts: &mut [usize; 5],
 ) -> u8
     ensures { λ r. ⌜ r ≡ statisticsNumber (statistics (now (frame .entry))) ⌝ }
     ensures distribution { λ r. ⌜ now («byte_distribution» .exit)
@@ -45,7 +45,7 @@ pub extern "C" fn lefkanu_analyze_frame(
     frame: &[u8],
     result: &mut [usize; 32],
     byte_distribution: &mut [u32; 256],
-    counts: &mut [usize; 4],
+    counts: &mut [usize; 5],
     out: &mut [u32],
     count: &mut usize,
 ) -> u8

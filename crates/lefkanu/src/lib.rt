@@ -1,12 +1,13 @@
 // The octet layer for programs in Rust and C, as a static library: numbers, slices of numbers and lent numbers only. Each
 // function answers 0 where there is a result, and then it stands in the lent memory; else the number of the question that
-// fails, FE for "none" and "start reached", or FF where a number names no rule, type or function, and writes nothing.
-// `numbers` has the layout of results, `answers` how answers are told.
+// fails, FE for "none" and "start reached", or FF where a number names no rule, type or function, and writes nothing. The
+// version of the layout is answered as it is. `numbers` has the layout of results, `answers` how answers are told.
 mod bus_runs;
 mod bvlc_messages;
 mod checks;
 mod ethernet_frames;
 mod frame_analysis;
+mod layout;
 mod log_records;
 mod mstp_frames;
 mod validators;
@@ -25,6 +26,7 @@ pub use ethernet_frames::lefkanu_ethernet_validate;
 pub use frame_analysis::lefkanu_analyze_frame;
 pub use frame_analysis::lefkanu_calculate_frame_statistics;
 pub use frame_analysis::lefkanu_detect_patterns;
+pub use layout::lefkanu_layout_version;
 pub use log_records::lefkanu_append;
 pub use log_records::lefkanu_read_record;
 pub use mstp_frames::lefkanu_data_link_error;

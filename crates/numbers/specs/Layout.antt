@@ -12,6 +12,10 @@ use Rattle.bip_header.specs.declared.BvlcHeader.{BvlcHeader}
 use Rattle.bip_header.specs.Function.{functionNumber}
 use Rattle.statistics.specs.declared.FrameStatistics.{FrameStatistics}
 
+-- the version of the layout; version 1 had no start of the longest run
+abbrev pub layoutVersion : ℕ
+layoutVersion = 2
+
 -- the number of an error; 0 where the Rust has none
 abbrev pub errorNumber : DataLinkError → ℕ
 errorNumber InvalidFrame = 1
@@ -45,11 +49,12 @@ headerNumbers h =
 abbrev pub bvlcNumbers : BvlcHeader → List ℕ
 bvlcNumbers h = functionNumber (h .function) ∷ h .length ∷ []
 
--- statistics beside the distribution: octets 00, octets of 80 or more, octet and length of the longest run
+-- statistics beside the distribution: octets 00, octets of 80 or more, octet, length and start of the longest run
 unfoldable pub countNumbers : FrameStatistics → List ℕ
 countNumbers t =
     t .«null_bytes»
     ∷ t .«high_bytes»
     ∷ t .«longest_run» .octet
     ∷ t .«longest_run» .length
+    ∷ t .«longest_run» .start
     ∷ []

@@ -5,7 +5,14 @@ use mstp_decode::MstpHeader;
 use mstp_frame::MSTP_HEADER_SIZE;
 use statistics::FrameStatistics;
 ghost use mathlib.Core.Path.{_≡_};
-ghost use Rattle.numbers.specs.Layout.{dataCrcThere, dataCrcNumber, headerNumbers, bvlcNumbers, countNumbers};
+ghost use Rattle.numbers.specs.Layout.{layoutVersion, dataCrcThere, dataCrcNumber, headerNumbers, bvlcNumbers, countNumbers};
+
+// The version of the layout, raised whenever what a caller lends changes, or which number stands where.
+pub fn layout_version() -> u32
+    ensures { λ r. ⌜ r ≡ layoutVersion ⌝ }
+{
+    2
+}
 
 // The same number.
 fn wide(x: u8) -> usize
@@ -53,8 +60,9 @@ pub fn header_numbers(header: MstpHeader) -> [usize; 8]
     ]
 }
 
-// The numbers of statistics beside the distribution: octets 00, octets of 80 or more, octet and length of the longest run.
-pub fn count_numbers(statistics: FrameStatistics) -> [usize; 4]
+// The numbers of statistics beside the distribution: octets 00, octets of 80 or more, octet, length and start of the longest
+// run.
+pub fn count_numbers(statistics: FrameStatistics) -> [usize; 5]
     ensures { λ r. ⌜ r ≡ countNumbers statistics ⌝ }
 {
     let run = statistics.longest_run;
@@ -63,6 +71,7 @@ pub fn count_numbers(statistics: FrameStatistics) -> [usize; 4]
         statistics.high_bytes,
         wide(run.octet),
         run.length,
+        run.start,
     ]
 }
 

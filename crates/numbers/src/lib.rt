@@ -6,6 +6,7 @@ use datalink::DataLinkError;
 pub use layout::bvlc_numbers;
 pub use layout::count_numbers;
 pub use layout::header_numbers;
+pub use layout::layout_version;
 ghost use mathlib.Core.Path.{_≡_};
 ghost use Rattle.numbers.specs.Layout.{errorNumber};
 ghost use Rattle.numbers.specs.Named.{ruleOf};

@@ -77,6 +77,7 @@ fn print_statistics(statistics: FrameStatistics) {
     print::number(statistics.high_bytes, 6);
     print::number(longest_run.octet as usize, 2);
     print::number(longest_run.length, 6);
+    print::number(longest_run.start, 6);
     print_distribution(byte_distribution);
 }
 

@@ -126,6 +126,14 @@ pub ends-start : (s : List ℕ) → Ends s 0 0 0
 unfolding front
 ends-start s = record { count = refl; some = λ l. omega arith }
 
+-- place and length of the longest run of the first i octets
+abbrev pub At : List ℕ → ℕ → ℕ → ℕ → Type 0
+At s i place n = (place ≡ longestWithin i s .start) × (n ≡ longestWithin i s .length)
+
+pub at-start : (s : List ℕ) → At s 0 0 0
+unfolding longestWithin
+at-start s = (refl, refl)
+
 -- one octet more
 module _ (s : List ℕ) (i : ℕ) (h : i < length s) where
   grown : reverse (take (suc i) s) ≡ getD s i 0 ∷ reverse (take i s)
@@ -152,22 +160,54 @@ module _ (s : List ℕ) (i : ℕ) (h : i < length s) where
         }
 
   -- so their longest run is the one before, or the run that they end with
-  pub walk-turn : {best : Run} {start x : ℕ} → best ≡ longestWithin i s → Ends s (i + 1) start x
-      → longer best (run start x (i + 1 - start)) ≡ longestWithin (i + 1) s
+  walk-turn : {start x : ℕ} → Ends s (i + 1) start x → longer (longestWithin i s) (run start x (i + 1 - start)) ≡ longestWithin (i + 1) s
   unfolding longestWithin lastRun
-  walk-turn {best} {start} {x} b ends =
+  walk-turn {start} {x} ends =
       let e : Ends s (suc i) start x = rw (add-one i) at ends in
       let r = reverse (take (suc i) s) in
       let some = e .some (omega arith) in
       let y : getD r 0 0 ≡ x = is-true x (getD r 0 0) (front-all (is x) r 0 (omega (arith, e .count))) in
       let n : front (is x) r ≡ suc i - start = omega (arith, e .count) in
       let p : start ≡ suc i - (suc i - start) = omega arith in
-      rw (add-one i, b, y, n, length-take-le (suc i) s h) (ap (λ (k : ℕ). longer (longestWithin i s) (run k x (suc i - start))) p)
+      rw (add-one i, y, n, length-take-le (suc i) s h) (ap (λ (k : ℕ). longer (longestWithin i s) (run k x (suc i - start))) p)
 
--- behind the last octet it is found, with what the contract says of it
-pub is-longest : (s : List ℕ) {i : ℕ} {r : Run} → i ≤ length s → length s ≤ i → r ≡ longestWithin i s
-    → (r ≡ longest s) × (Longest s r × OnlyLongest s r)
-is-longest s {i} {r} h l b =
-    let n : i ≡ length s = omega arith in
-    let e : r ≡ longest s = b ∙ rw n in
-    rw e (refl, (longest-law s, only-longest s))
+  -- place and length of the new one, or of the one before
+  module _ {place n start x : ℕ} (b : At s i place n) (ends : Ends s (i + 1) start x) where
+    pub at-new : n < i + 1 - start → At s (i + 1) start (i + 1 - start)
+    at-new l =
+        let e = longer-second (longestWithin i s) (run start x (i + 1 - start)) (rw (b .1) at l) ∙ walk-turn ends in
+        (ap (λ (r : Run). r .start) e, ap (λ (r : Run). r .length) e)
+
+    pub at-on : i + 1 - start ≤ n → At s (i + 1) place n
+    at-on l =
+        let e = longer-first (longestWithin i s) (run start x (i + 1 - start)) (rw (b .1) at l) ∙ walk-turn ends in
+        (b .0 ∙ ap (λ (r : Run). r .start) e, b .1 ∙ ap (λ (r : Run). r .length) e)
+
+-- what the contract says of a run
+abbrev Found : List ℕ → Run → Type 0
+Found s r = (r ≡ longest s) × (Longest s r × OnlyLongest s r)
+
+found : (s : List ℕ) {r : Run} → r ≡ longest s → Found s r
+found s e = rw e (refl, (longest-law s, only-longest s))
+
+-- of no octets
+pub no-octets : (s : List ℕ) → length s ≡ 0 → Found s (run 0 0 0)
+unfolding longestWithin
+no-octets s none = found s (ap (λ (k : ℕ). longestWithin k s) (sym none))
+
+-- after the last octet the place is that of the longest run
+module _ (s : List ℕ) {i place n : ℕ} (h : i ≤ length s) (l : length s ≤ i) (b : At s i place n) where
+  at-end : At s (length s) place n
+  at-end = let e : i ≡ length s = omega arith in rw e at b
+
+  pub place-inside : 0 < length s → place < length s
+  place-inside some =
+      let r = longest-law s in
+      let one = r .most 0 1 (omega arith, λ k m. same s (0 + k) 0 (omega arith)) in
+      omega (arith, at-end .0, r .same .0)
+
+  pub is-longest : Found s (run place (getD s place 0) n)
+  is-longest =
+      let e = at-end in
+      let x = longest-law s .value in
+      found s (rw (e .0, e .1, ← x))

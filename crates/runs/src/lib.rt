@@ -40,12 +40,17 @@ pub fn longest_run(s: &[u8]) -> Run
     ensures longest { λ r. ⌜ Longest (now (s .entry)) r ⌝ }
     ensures only { λ r. ⌜ OnlyLongest (now (s .entry)) r ⌝ }
 {
-    let mut best = Run {
-        start: 0,
-        octet: 0,
-        length: 0,
-    };
-    // The run that the octets so far end with: its first place, and its value.
+    if s.len() == 0 {
+        return Run {
+            start: 0,
+            octet: 0,
+            length: 0,
+        };
+    }
+    // The longest run of the octets so far: its first place, and its length.
+    let mut place = 0;
+    let mut length = 0;
+    // The run that they end with: its first place, and its value.
     let mut start = 0;
     let mut last = 0;
     let mut i = 0;
@@ -56,14 +61,15 @@ pub fn longest_run(s: &[u8]) -> Run
             last = x;
         }
         let n = i + 1 - start;
-        if best.length < n {
-            best = Run {
-                start,
-                octet: last,
-                length: n,
-            };
+        if length < n {
+            place = start;
+            length = n;
         }
         i += 1;
     }
-    best
+    Run {
+        start: place,
+        octet: s[place],
+        length,
+    }
 }

@@ -11,11 +11,11 @@ use Rattle.octets.proofs.Parts.{Octets}
 use Rattle.octets.proofs.Questions.{passed, failed, ended, refusal, acceptance}
 use Rattle.runs.specs.Longest.{longest}
 use Rattle.runs.specs.declared.Run.{Run}
-use Rattle.runs.proofs.Longest.{longest-law}
+use Rattle.runs.proofs.Longest.{longest-law, only-longest}
 use Rattle.statistics.specs.declared.FrameStatistics.{FrameStatistics}
 use Rattle.octets.specs.declared.AcceptResult.the-variants.{Refused}
 use Rattle.statistics.specs.declared.StatisticsAnswer.{StatisticsAnswer}
-use Rattle.statistics.specs.Statistics.{byteDistribution, nullBytes, highBytes, longestRun, frameStatistics}
+use Rattle.statistics.specs.Statistics.{byteDistribution, nullBytes, highBytes, frameStatistics}
 use Rattle.statistics.specs.Statistics.{noStatistics, calculated, refused, statisticsQuestion, statistics}
 use Rattle.statistics.specs.Laws.{Calculates, AllCounted, NullCounted, HighCounted, LongestStands}
 use Rattle.statistics.proofs.Counting.{distribution-at}
@@ -28,9 +28,9 @@ module _ (s : List ℕ) where
         «byte_distribution» = counts;
         «null_bytes» = getD counts 0 0;
         «high_bytes» = high;
-        «longest_run» = record { octet = r .octet; length = r .length };
+        «longest_run» = r;
       } ≡ frameStatistics s
-  unfolding frameStatistics nullBytes longestRun
+  unfolding frameStatistics nullBytes
   statistics-of e f g = rw (e, f, g, distribution-at s 0 (omega arith))
 
   -- what the answer promises of the statistics
@@ -54,8 +54,8 @@ module _ (s : List ℕ) where
   module _ (octets : Octets s) where
     -- the promises hold of the statistics
     holds : Holds (frameStatistics s)
-    unfolding frameStatistics nullBytes longestRun
-    holds = (all-total s octets, (distribution-at s 0 (omega arith), (high-total s octets, (longest s .start, longest-law s))))
+    unfolding frameStatistics nullBytes
+    holds = (all-total s octets, (distribution-at s 0 (omega arith), (high-total s octets, (longest-law s, only-longest s))))
 
     -- no more than it takes
     pub statistics-calculated : atMost65535 (length s) ≡ true → {t : FrameStatistics} → t ≡ frameStatistics s → Answered (calculated t)

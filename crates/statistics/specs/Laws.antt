@@ -4,7 +4,7 @@ use mathlib.Core.Path.{_≡_}
 use mathlib.Core.List.{List, [], _∷_}
 use Prim.Native.Nat.{ℕ, _+_}
 use lib.ListN.{length, getD, drop}
-use Rattle.runs.specs.Longest.{run, Longest}
+use Rattle.runs.specs.Longest.{Longest, OnlyLongest}
 use Rattle.octets.specs.Answer.{WhereAccepted}
 use Rattle.statistics.specs.declared.FrameStatistics.{FrameStatistics}
 use Rattle.statistics.specs.declared.StatisticsAnswer.{StatisticsAnswer}
@@ -30,6 +30,6 @@ NullCounted t = getD (t .«byte_distribution») 0x00 0 ≡ t .«null_bytes»
 abbrev pub HighCounted : FrameStatistics → Type 0
 HighCounted t = total (drop 0x80 (t .«byte_distribution»)) ≡ t .«high_bytes»
 
--- octet and length are those of the longest run, the earliest of equals, which starts at some place
+-- the run is the longest, the earliest of equals, and no other run is
 abbrev pub LongestStands : List ℕ → FrameStatistics → Type 0
-LongestStands s t = (start : ℕ) × Longest s (run start (t .«longest_run» .octet) (t .«longest_run» .length))
+LongestStands s t = Longest s (t .«longest_run») × OnlyLongest s (t .«longest_run»)

@@ -6,10 +6,9 @@ use lib.Dec.{leb}
 use lib.ListN.{replicate}
 use Rattle.octets.specs.Question.{firstNo, answered}
 use Rattle.runs.specs.Front.{is, count}
-use Rattle.runs.specs.Longest.{longest}
+use Rattle.runs.specs.Longest.{run, longest}
 use Rattle.octets.specs.Size.{sizeQuestion}
 use Rattle.octets.specs.declared.AcceptResult.the-variants.{Accepted, Refused}
-use Rattle.statistics.specs.declared.LongestRun.{LongestRun}
 use Rattle.statistics.specs.declared.FrameStatistics.{FrameStatistics}
 use Rattle.statistics.specs.declared.StatisticsAnswer.{StatisticsAnswer}
 
@@ -34,20 +33,13 @@ nullBytes s = count (is 0x00) s
 unfoldable pub highBytes : List ℕ → ℕ
 highBytes s = count (leb 0x80) s
 
--- octet and length of the longest run, the earliest of equals
-unfoldable pub longestRun : List ℕ → LongestRun
-longestRun s = record {
-  octet = longest s .octet;
-  length = longest s .length;
-}
-
 -- the statistics of some octets
 unfoldable pub frameStatistics : List ℕ → FrameStatistics
 frameStatistics s = record {
   «byte_distribution» = byteDistribution s;
   «null_bytes» = nullBytes s;
   «high_bytes» = highBytes s;
-  «longest_run» = longestRun s;
+  «longest_run» = longest s;
 }
 
 -- zeros: what stands where nothing was counted
@@ -56,7 +48,7 @@ noStatistics = record {
   «byte_distribution» = replicate 256 0;
   «null_bytes» = 0;
   «high_bytes» = 0;
-  «longest_run» = record { octet = 0; length = 0 };
+  «longest_run» = run 0 0 0;
 }
 
 -- an answer with statistics

@@ -1,23 +1,18 @@
 // The statistics of a frame: `calculate_frame_statistics` of validation.rs, without the entropy.
 use octets::AcceptResult;
+use runs::Run;
 ghost use mathlib.Core.Path.{_≡_};
 ghost use Prim.Native.Nat.{_≤_, _<_};
 ghost use lib.ListN.{length};
 ghost use Rattle.statistics.specs.Statistics.{byteDistribution, frameStatistics, noStatistics, statistics};
 ghost use Rattle.statistics.specs.Laws.{total, Calculates, AllCounted, NullCounted, HighCounted, LongestStands};
 
-// The longest run of one value, the earliest of equals; of no octets both are 0.
-pub struct LongestRun {
-    pub octet: u8,
-    pub length: usize,
-}
-
 // How many octets have each value, how many are 00, how many are 80 or more, and the longest run.
 pub struct FrameStatistics {
     pub byte_distribution: [u32; 256],
     pub null_bytes: usize,
     pub high_bytes: usize,
-    pub longest_run: LongestRun,
+    pub longest_run: Run,
 }
 
 impl FrameStatistics {
@@ -29,7 +24,8 @@ impl FrameStatistics {
             byte_distribution: [0u32; 256],
             null_bytes: 0,
             high_bytes: 0,
-            longest_run: LongestRun {
+            longest_run: Run {
+                start: 0,
                 octet: 0,
                 length: 0,
             },
@@ -88,20 +84,18 @@ fn frame_statistics(frame: &[u8]) -> FrameStatistics
     let counts = byte_distribution(frame);
     let null_bytes = counts[0] as usize;
     let high_bytes = sum(&counts[0x80..]);
-    let run = runs::longest_run(frame);
+    let longest_run = runs::longest_run(frame);
     FrameStatistics {
         byte_distribution: counts,
         null_bytes,
         high_bytes,
-        longest_run: LongestRun {
-            octet: run.octet,
-            length: run.length,
-        },
+        longest_run,
     }
 }
 
 // The statistics of a frame: all counts add up to its length, that of 00 is `null_bytes`, those of 80 and more add up to
-// `high_bytes`, and `longest_run` is the longest run of one value, the earliest of equals. Or question 31, and zeros.
+// `high_bytes`, and `longest_run` is the longest run of one value with its start, the earliest of equals, and no other run
+// is. Or question 31, and zeros.
 pub fn calculate_frame_statistics(frame: &[u8]) -> StatisticsAnswer
     ensures { λ r. ⌜ r ≡ statistics (now (frame .entry)) ⌝ }
     ensures counts { λ r. ⌜ Calculates (AllCounted (now (frame .entry))) r ⌝ }

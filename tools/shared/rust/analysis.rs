@@ -3,17 +3,18 @@
 use bacnet::datalink::validation::{FrameStatistics, Pattern};
 
 use crate::model::patterns::Entry;
-use crate::model::statistics::Statistics;
+use crate::model::statistics::{first_place, Statistics};
 use crate::octets::hex;
 
-// The Rust's statistics.
-pub fn statistics(counted: &FrameStatistics) -> Statistics {
+// The Rust's statistics of some octets. It doesn't tell where its longest run starts: the model does.
+pub fn statistics(octets: &[u8], counted: &FrameStatistics) -> Statistics {
     let counts = counted.byte_distribution.map(|count| count as usize);
     Statistics {
         counts: counts.to_vec(),
         zeros: counted.null_bytes,
         high: counted.high_bytes,
         longest: counted.longest_run,
+        start: first_place(octets, counted.longest_run),
     }
 }
 

@@ -25,6 +25,17 @@ fn changed<const N: usize>(mut octets: [u8; N], place: usize, octet: u8) -> [u8;
 
 // SAFETY, here and below: pointers and lengths are of the same slice, and all that is written to are locals.
 
+#[test]
+fn layout_version() {
+    assert_eq!(unsafe { lefkanu_layout_version() }, LAYOUT_VERSION);
+}
+
+#[test]
+#[should_panic(expected = "another layout version")]
+fn another_layout_version() {
+    super::expect_layout(LAYOUT_VERSION + 1);
+}
+
 fn decode(rule: u8, frame: &[u8]) -> (u8, [usize; 8]) {
     let mut header = [NUMBER; 8];
     let answer = unsafe { lefkanu_mstp_decode(rule, frame.as_ptr(), frame.len(), &mut header) };
@@ -325,7 +336,7 @@ fn validators_without_a_rule() {
 fn statistics() {
     for (answer, octets) in [(0, 65_535), (31, 65_536)] {
         let frame = vec![0x80; octets];
-        let (mut byte_distribution, mut counts) = ([WORD; 256], [NUMBER; 4]);
+        let (mut byte_distribution, mut counts) = ([WORD; 256], [NUMBER; COUNT_NUMBERS]);
         let answered = unsafe {
             lefkanu_calculate_frame_statistics(
                 frame.as_ptr(),
@@ -339,10 +350,10 @@ fn statistics() {
             let mut expected = [0; 256];
             expected[0x80] = 65_535;
             assert_eq!(byte_distribution, expected);
-            assert_eq!(counts, [0, 65_535, 0x80, 65_535]);
+            assert_eq!(counts, [0, 65_535, 0x80, 65_535, 0]);
         } else {
             assert_eq!(byte_distribution, [WORD; 256]);
-            assert_eq!(counts, [NUMBER; 4]);
+            assert_eq!(counts, [NUMBER; COUNT_NUMBERS]);
         }
     }
 }
@@ -376,7 +387,7 @@ fn analyze_frame() {
     ] {
         let frame = vec![0x41; octets];
         let mut result = [NUMBER; RESULT_NUMBERS];
-        let (mut byte_distribution, mut counts) = ([WORD; 256], [NUMBER; 4]);
+        let (mut byte_distribution, mut counts) = ([WORD; 256], [NUMBER; COUNT_NUMBERS]);
         let mut buffer = vec![WORD; room + 8];
         let out = &mut buffer[4..4 + room];
         let mut count = NUMBER;
@@ -400,11 +411,11 @@ fn analyze_frame() {
             assert_eq!(result, findings);
             assert_eq!(byte_distribution[0x41], 4);
             assert_eq!(byte_distribution.iter().sum::<u32>(), 4);
-            assert_eq!((counts, count), ([0, 0, 0x41, 4], 1));
+            assert_eq!((counts, count), ([0, 0, 0x41, 4, 0], 1));
         } else {
             assert_eq!(result, [NUMBER; RESULT_NUMBERS]);
             assert_eq!(byte_distribution, [WORD; 256]);
-            assert_eq!((counts, count), ([NUMBER; 4], NUMBER));
+            assert_eq!((counts, count), ([NUMBER; COUNT_NUMBERS], NUMBER));
         }
         assert_eq!(buffer, expected);
     }

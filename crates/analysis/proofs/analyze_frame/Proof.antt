@@ -1,6 +1,7 @@
 -- `analysis::analyze_frame` meets its contract: the patterns' answer decides for all three.
 -- Assumes nothing.
-use Rattle.analysis.proofs.Answers.{all-three, none-of-them}
+use Rattle.statistics.specs.Laws.{LongestStands}
+use Rattle.analysis.proofs.Answers.{all-three, holds-here, none-of-them}
 use borrow.Author.Needs.{needs}
 use Rattle.analysis.proofs.analyze_frame.Statement.{statement}
 use Rattle.analysis.proofs.analyze_frame.Tie as tie
@@ -9,9 +10,13 @@ returns : tie.Need-returns
 returns c =
     let b = c .before .before in
     let a = b .before .before in
-    let d = a .before .before .before .before in (
-      all-three _ _ _ (d .detect-patterns .ensures .0) (a .detected .given .1) (b .validate-frame .ensures) (c .before .calculate-frame-statistics .ensures .0),
-      d .detect-patterns .ensures .1 .0,
+    let d = a .before .before .before .before in
+    let t = c .before .calculate-frame-statistics in (
+      all-three _ _ (d .detect-patterns .ensures .0) _ (a .detected .given .1) (b .validate-frame .ensures) (t .ensures .0),
+      (
+        d .detect-patterns .ensures .1 .0,
+        holds-here _ _ (d .detect-patterns .ensures .0) (LongestStands _) (a .detected .given .1) (t .ensures .0) (t .ensures .1 .1 .1 .1),
+      ),
     )
 
 returns-2 : tie.Need-returns-2
@@ -19,8 +24,8 @@ returns-2 c =
     let b = c .before in
     let a = b .before .before in
     let d = a .before .before .before .before in (
-      none-of-them _ _ _ (d .detect-patterns .ensures .0) (a .detected2 .given .1) (b .zeros .ensures) (c .zeros2 .ensures),
-      d .detect-patterns .ensures .1 .0,
+      none-of-them _ _ (d .detect-patterns .ensures .0) _ (a .detected2 .given .1) (b .zeros .ensures) (c .zeros2 .ensures),
+      (d .detect-patterns .ensures .1 .0, tt),
     )
 
 pub analyze-frame-spec : {M : Type 1} → statement M

@@ -14,16 +14,19 @@ pub struct FrameStatistics {
     pub high_bytes: usize,
     /// Octet and length of the longest run, of equals the first; 0 and 0 without octets.
     pub longest_run: (u8, usize),
+    /// The place of its first octet; 0 without octets.
+    pub longest_run_start: usize,
 }
 
 impl From<Counts> for FrameStatistics {
     fn from(counted: Counts) -> Self {
-        let [null_bytes, high_bytes, octet, length] = counted.counts;
+        let [null_bytes, high_bytes, octet, length, start] = counted.counts;
         Self {
             byte_distribution: counted.byte_distribution,
             null_bytes,
             high_bytes,
             longest_run: (octet as u8, length),
+            longest_run_start: start,
         }
     }
 }
@@ -36,7 +39,7 @@ impl From<Counts> for FrameStatistics {
 /// let statistics = calculate_frame_statistics(&[0x00, 0x41, 0x41, 0xFF])?;
 /// assert_eq!(statistics.byte_distribution[0x41], 2);
 /// assert_eq!((statistics.null_bytes, statistics.high_bytes), (1, 1));
-/// assert_eq!(statistics.longest_run, (0x41, 2));
+/// assert_eq!((statistics.longest_run, statistics.longest_run_start), ((0x41, 2), 1));
 /// # Ok::<(), lefkanu::datalink::DataLinkError>(())
 /// ```
 pub fn calculate_frame_statistics(data: &[u8]) -> Result<FrameStatistics> {

@@ -30,7 +30,7 @@ returns-2 c =
             told .1 .1 .1 .0
                 ∙ under _ (λ rule. analysis rule _ _) (analysisCounts _) _ low named (answer .0),
             (
-              under _ (λ _. patternsOutput _ _) (λ out. out) _ low named (answer .1),
+              under _ (λ _. patternsOutput _ _) (λ out. out) _ low named (answer .1 .0),
               told .1 .1 .1 .1 ∙ under _ (λ rule. analysis rule _ _) (analysisCount _) _ low named (answer .0),
             ),
           ),
