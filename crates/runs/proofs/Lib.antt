@@ -2,3 +2,4 @@ pub mod Back
 pub mod Count
 pub mod Front
 pub mod Longest
+pub mod Walk

@@ -5,6 +5,7 @@ ghost use lib.ListN.{drop};
 ghost use Rattle.octets.specs.Range.{within};
 ghost use Rattle.runs.specs.Front.{is, front};
 ghost use Rattle.runs.specs.Longest.{longest, Longest, OnlyLongest};
+ghost use Rattle.runs.specs.Example.{Example};
 
 // A run of one value: its first place, the value, and how many octets it has.
 pub struct Run {
@@ -39,6 +40,7 @@ pub fn longest_run(s: &[u8]) -> Run
     ensures { λ r. ⌜ r ≡ longest (now (s .entry)) ⌝ }
     ensures longest { λ r. ⌜ Longest (now (s .entry)) r ⌝ }
     ensures only { λ r. ⌜ OnlyLongest (now (s .entry)) r ⌝ }
+    ensures example { λ r. ⌜ Example ⌝ }
 {
     if s.len() == 0 {
         return Run {

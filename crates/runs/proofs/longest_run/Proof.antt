@@ -4,7 +4,7 @@ use Prim.Native.Nat.{_+_, _≤_, _-_}
 use native.Mathlib.Omega.{arith}
 use mathlib.Core.Logic.{⊎-elim}
 use lib.ListN.{length}
-use Rattle.runs.proofs.Longest.{Ends, ends-start, ends-on, ends-new, At, at-start, at-new, at-on, no-octets, place-inside, is-longest}
+use Rattle.runs.proofs.Walk.{Ends, ends-start, ends-on, ends-new, At, at-start, at-new, at-on, no-octets, place-inside, is-longest}
 use Rattle.runs.proofs.longest_run.Statement.{statement}
 use Rattle.runs.proofs.longest_run.Tie as tie
 
