@@ -8,7 +8,7 @@ use lib.ListN.{length}
 use Rattle.octets.specs.Range.{within}
 use Rattle.crc.specs.Rule.{dataCheck}
 use Rattle.crc.specs.declared.CheckRule.{CheckRule}
-use Rattle.mstp_frame.specs.Address.{isMaster, isSlave}
+use Rattle.mstp_frame.specs.Address.{isMaster, isSlave, usualToSlave}
 use Rattle.mstp_frame.specs.Fields.{preamble, frameType, destinationOf, sourceOf, dataLength}
 use Rattle.mstp_frame.specs.Fields.{headerCheckSent, headerCheckOf, dataPart, dataCheckSent}
 use Rattle.mstp_frame.specs.Size.{frameSize}
@@ -41,9 +41,9 @@ errorTests rule s =
     ∷ dataCheckTest rule s
     ∷ []
 
--- a master sends to a slave with a type other than 3, under either rule
+-- a master sends to a slave with a type that is not usual there under the rule
 unfoldable pub masterToSlave : CheckRule → ℕ → ℕ → ℕ → Bool
-masterToSlave rule type destination source = isMaster source && (isSlave destination && not (eqb type 3))
+masterToSlave rule type destination source = isMaster source && (isSlave destination && not (usualToSlave rule type))
 
 -- the tests of warnings: a type of 128 or more, a master that sends to a slave
 unfoldable pub warningTests : CheckRule → List ℕ → List Test

@@ -61,13 +61,13 @@ fn data_check_entry(rule: CheckRule, frame: &[u8]) -> Finding
     )
 }
 
-// Whether a master sends to a slave with a type other than a test request.
+// Whether a master sends to a slave with a type that is not usual there under the rule.
 fn master_to_slave(rule: CheckRule, frame_type: u8, destination: u8, source: u8) -> bool
     ensures { λ r. ⌜ r ≡ masterToSlave rule «frame_type» destination source ⌝ }
 {
     if mstp_frame::is_master_node(source) {
         if mstp_frame::is_slave_node(destination) {
-            return frame_type != 3;
+            return !mstp_frame::usual_to_slave(rule, frame_type);
         }
         return false;
     }

@@ -1,12 +1,13 @@
 -- `validation_mstp::validate_mstp_frame` meets its contract: too short alone, else what the tests store.
 -- Assumes nothing.
-use mathlib.Core.Path.{refl}
+use mathlib.Core.Path.{_≡_, refl}
 use Prim.Native.Nat.{_+_, _≤_}
 use native.Mathlib.Omega.{arith}
 use borrow.Author.Needs.{needs}
+use Rattle.mstp_frame.specs.Fields.{frameType, destinationOf, sourceOf}
 use Rattle.findings.specs.declared.LinkType.the-variants.{MsTP}
 use Rattle.findings.proofs.Stored.{none, next, short-answer, stored-answer}
-use Rattle.validation_mstp.specs.Tests.{dataCheckTest, errorTests, warningTests, mstpErrors, mstpWarnings, mstpResult}
+use Rattle.validation_mstp.specs.Tests.{dataCheckTest, errorTests, masterToSlave, warningTests, mstpErrors, mstpWarnings, mstpResult}
 use Rattle.validation_mstp.specs.Validity.{ValidAsRead}
 use Rattle.validation_mstp.proofs.NoError.{wrong-told}
 use Rattle.validation_mstp.proofs.Validity.{valid-as-read}
@@ -51,6 +52,13 @@ returns-2 c =
     let type = read .before .before .before .before .before .before in
     let a = type .before .before .before .before .args in
     let s = a .frame .now in
+    let h = c .before .before .master-to-slave .result in
+    let to-slave : h ≡ masterToSlave (a .rule) (frameType s) (destinationOf s) (sourceOf s) =
+    rw (
+      ← type .frame-type .ensures,
+      ← c .before .before .before .destination .ensures,
+      ← read .before .before .before .before .before .source .ensures,
+    ) (c .before .before .master-to-slave .ensures) in
     stored-answer MsTP _ 8 (errorTests (a .rule) s) (warningTests (a .rule) s) (ValidAsRead (a .rule) s)
     (valid-as-read (a .rule) s (λ i. type .before .before .before .shared-slice-known .given i .fits)) (type .before .before .if1 .left)
     (rw (
@@ -78,12 +86,7 @@ returns-2 c =
     (omega arith) (sixth .before .entry-if6 .ensures) refl (sixth .one-if6 .ensures .0) refl)
     (omega arith) (last .data-check-entry .ensures) refl
     (rw (← (wrong-told (a .rule) s (last .data-check-entry .ensures))) (c .before .before .before .before .before .before .one-if7 .ensures .0)) refl))
-    (rw (
-      ← type .frame-type .ensures,
-      ← c .before .before .before .destination .ensures,
-      ← read .before .before .before .before .before .source .ensures,
-      ← c .before .before .master-to-slave .ensures,
-    )
+    (rw (← to-slave, ← type .frame-type .ensures)
     (next _ _
     (next _ _ (none 2) (omega arith) (c .before .before .before .before .before .entry-if7 .ensures) refl (c .before .before .before .before .one-if8 .ensures .0) (omega arith))
     (omega arith) (c .before .entry-if8 .ensures) refl (c .one-if9 .ensures .0) refl))
