@@ -1,9 +1,12 @@
 // The frames and messages that are measured. They are never given back, so that every call of a row
 // may borrow them.
 
+use ffi::lefkanu_mstp_encode;
 use shared::model::{bvlc, ethernet, mstp};
 use shared::random::Random;
 use shared::rust::checks::House;
+
+use crate::rules::ANNEX_G;
 
 pub type Octets = &'static [u8];
 
@@ -50,6 +53,25 @@ fn mstp_to(destination: u8, size: usize) -> Octets {
     let data = octets(size.saturating_sub(10));
     let kind = if data.is_empty() { 0 } else { 6 };
     mstp::written(House, [kind, destination, 5], data).leak()
+}
+
+// An MS/TP frame with the checks of Annex G, which the library works out: the model has none here.
+pub fn under_annex_g(frame: Octets) -> Octets {
+    let [_, _, kind, to, from, high, low, ..] = frame else {
+        panic!("no header: {frame:02X?}");
+    };
+    let data = &frame[8..][..usize::from(u16::from_be_bytes([*high, *low]))];
+    let mut written = vec![0; frame.len()];
+    let (out, room) = (written.as_mut_ptr(), written.len());
+    let (octets, length) = (data.as_ptr(), data.len());
+    let mut count = 0;
+    let answer = unsafe {
+        lefkanu_mstp_encode(
+            ANNEX_G, *kind, *to, *from, octets, length, out, room, &mut count,
+        )
+    };
+    assert_eq!((answer, count), (0, frame.len()), "MS/TP write");
+    written.leak()
 }
 
 // An MS/TP frame of so many octets whose type, source and checks are wrong.

@@ -10,14 +10,15 @@ use ffi::{
     lefkanu_validate_bacnet_ip_frame, lefkanu_validate_ethernet_frame, lefkanu_validate_frame,
     lefkanu_validate_mstp_frame, RESULT_NUMBERS,
 };
+use shared::model::findings::{Findings, Link};
 use shared::rust::findings::told;
 
 use crate::frames::{
-    bad_bvlc, bad_ethernet, bad_mstp, broken, bvlc, ethernet, header_broken, mstp, to_slave, with,
-    Octets,
+    bad_bvlc, bad_ethernet, bad_mstp, broken, bvlc, ethernet, header_broken, mstp, to_slave,
+    under_annex_g, with, Octets,
 };
 use crate::row::{lent, now, sizes_to, Row, SIZES};
-use crate::rules::HOUSE;
+use crate::rules::{ANNEX_G, HOUSE};
 
 // A validator of each side.
 type Theirs = fn(&[u8]) -> ValidationResult;
@@ -54,6 +55,7 @@ pub fn rows() -> Vec<Row> {
         "validate MS/TP, header check wrong", mstp_row, short(), |size| header_broken(mstp(size));
         "validate MS/TP, data check wrong", mstp_row, short().skip(1), |size| broken(mstp(size));
         "validate MS/TP, to a slave", mstp_row, short(), to_slave;
+        "validate MS/TP, data to a slave, Annex G rule", annex_g_row, short().skip(1), to_slave;
         "validate IP", ip_row, long(), |size| bvlc(size.min(IP_MOST));
         "validate IP, errors", ip_row, SIZES, bad_bvlc;
         "validate IP, secure BVLL", ip_row, [8], |size| with(bvlc(size), &[(1, 0x0C)]);
@@ -70,6 +72,23 @@ pub fn rows() -> Vec<Row> {
 fn mstp_row(name: &'static str, frame: Octets) -> Row {
     let (ours, theirs) = (lefkanu_validate_mstp_frame, validate_mstp_frame);
     ruled(name, frame, ours, theirs)
+}
+
+// A row of the MS/TP validator under Annex G, which the Rust doesn't have: a frame without findings.
+fn annex_g_row(name: &'static str, frame: Octets) -> Row {
+    let frame = under_annex_g(frame);
+    let ours = black_box(lefkanu_validate_mstp_frame as Ruled);
+    let result = lent([0; RESULT_NUMBERS]);
+    let call = move || unsafe { ours(ANNEX_G, frame.as_ptr(), frame.len(), result) };
+    assert_eq!(call(), 0, "{name}");
+    let clean = Findings {
+        valid: true,
+        link: Link::Mstp,
+        size: frame.len(),
+        ..Findings::default()
+    };
+    assert_eq!(now(result), clean.numbers(), "{name}");
+    Row::alone(name, frame.len(), call)
 }
 
 fn ip_row(name: &'static str, frame: Octets) -> Row {

@@ -18,11 +18,11 @@ use shared::rust;
 
 use crate::call::Call;
 use crate::check::Rule;
-use crate::inputs::{any, one_of, Ask};
+use crate::inputs::{any, mstp, one_of, Ask};
 use crate::lent::Lent;
 use crate::outcome::{model, Rust};
 use crate::tally::Tally;
-use crate::validation::rust_findings;
+use crate::validation::{rust_findings, see_mstp_header};
 use crate::written::InMemory;
 
 // How many frames there are, beside the short words: under each rule, or where there is none.
@@ -79,12 +79,17 @@ fn rust_patterns(frame: &[u8], found: &[Pattern], room: usize) -> Option<Vec<Ent
     (4 * entries.len() <= room).then_some(entries)
 }
 
-// A room for the patterns of a frame: just enough, around that, or any.
-fn room(frame: &[u8], random: &mut Random) -> usize {
-    let fit = match frame.len() {
+// The room that the patterns of a frame need; some, where it is too long for them.
+fn fit(frame: &[u8]) -> usize {
+    match frame.len() {
         0..=MOST => 4 * patterns::found(frame).len(),
         _ => 8,
-    };
+    }
+}
+
+// A room for the patterns of a frame: just enough, around that, or any.
+fn room(frame: &[u8], random: &mut Random) -> usize {
+    let fit = fit(frame);
     let less = fit.saturating_sub(1);
     match random.below(4) {
         0 => one_of(&[0, 3, 4, 5, less, fit.saturating_sub(4)], random),
@@ -129,6 +134,9 @@ fn see(tally: &mut Tally, entries: &[Entry]) {
 
 // Compares the analysis, also of frames of each link and under numbers that name no rule.
 pub fn whole_analysis(tally: &mut Tally, random: &mut Random) {
+    mstp::types_and_addresses(random, &mut |random, rule, frame| {
+        analyze_into(tally, random, fit(frame), rule, frame);
+    });
     each(FRAMES, random, &mut |random, frame| {
         for rule in 0..2 {
             analyze(tally, random, rule, frame);
@@ -144,9 +152,14 @@ pub fn whole_analysis(tally: &mut Tally, random: &mut Random) {
     });
 }
 
-// One analysis.
+// One analysis, with any room.
 fn analyze(tally: &mut Tally, random: &mut Random, rule: u8, frame: &[u8]) {
     let room = room(frame, random);
+    analyze_into(tally, random, room, rule, frame);
+}
+
+// One analysis.
+fn analyze_into(tally: &mut Tally, random: &mut Random, room: usize, rule: u8, frame: &[u8]) {
     let mut result = Lent::<usize>::new(RESULT_NUMBERS, random);
     let mut distribution = Lent::<u32>::new(256, random);
     let mut counts = Lent::<usize>::new(COUNT_NUMBERS, random);
@@ -161,8 +174,9 @@ fn analyze(tally: &mut Tally, random: &mut Random, rule: u8, frame: &[u8]) {
         )
     };
     let found = Rule::of(rule).and_then(|rule| analysis::analyze(rule, frame, room));
-    if let Ok(analysis) = &found {
+    if let (Ok(rule), Ok(analysis)) = (Rule::of(rule), &found) {
         tally.see(('l', analysis.findings.link as usize, 0));
+        see_mstp_header(tally, rule, frame, &analysis.findings);
         see(tally, &analysis.patterns);
         see_run(tally, frame, &analysis.statistics);
     }

@@ -39,6 +39,10 @@ impl Rule {
 }
 
 impl Checks for Rule {
+    fn is_annex_g(self) -> bool {
+        self == Rule::AnnexG
+    }
+
     fn header_check(self, five: [u8; 5]) -> u8 {
         self.generators()[0].check(&five) as u8
     }

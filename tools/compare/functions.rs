@@ -11,21 +11,22 @@ pub struct Function {
     pub name: &'static str,
     // Its answers, and what its results have: e and w an error and a warning by kind and reason, n
     // a count of errors, l a link, m what a message carries, p a pattern; r1 a longest run in front,
-    // r2 one that starts later, r3 another as long after it; d1 frames that demand 3 speaks of, d2 a
+    // r2 one that starts later, r3 another as long after it; h4608 headers of every type with every
+    // pair of a master, a slave and all stations, under both rules; d1 frames that demand 3 speaks of, d2 a
     // report that reaches from the damage over a head.
     pub answers: &'static [u8],
     pub sights: &'static str,
     pub compare: fn(&mut Tally, &mut Random),
 }
 
-const MSTP_FINDINGS: &str = "e1 e3 e4 e5 e6 e7.1 e8 n0 n6 n7 w3.1 w3.2";
+const MSTP_FINDINGS: &str = "e1 e3 e4 e5 e6 e7.1 e8 n0 n6 n7 w3.1 w3.2 h4608";
 const IP_FINDINGS: &str = "e1 e2 e3 e5 e8 n0 n4 w4.1 w4.2";
 const ETHERNET_FINDINGS: &str = "e1 e2 e7.2 e7.3 n0 n3 w1 w3.3";
 const ANY_FINDINGS: &str =
-    "e1 e2 e4 e5 e6 e7.1 e7.3 e7.4 e8 l0 l1 l2 l3 n0 n6 w1 w3.1 w3.2 w3.3 w4.1 w4.2";
+    "e1 e2 e4 e5 e6 e7.1 e7.3 e7.4 e8 l0 l1 l2 l3 n0 n6 w1 w3.1 w3.2 w3.3 w4.1 w4.2 h4608";
 const PATTERNS: &str = "p1 p2 p3 p4";
 const LONGEST_RUNS: &str = "r1 r2 r3";
-const ANALYSIS: &str = "l0 l1 l2 l3 p1 p2 p3 p4 r1 r2 r3";
+const ANALYSIS: &str = "l0 l1 l2 l3 p1 p2 p3 p4 r1 r2 r3 h4608";
 const MESSAGES: &str = "m1 m2 m3";
 const DEMAND_3: &str = "d1 d2";
 

@@ -34,7 +34,8 @@ pub enum Rust {
     Silent,
     // It judges all of the answer.
     Whole(Told),
-    // It judges all but whether Annex G's checks are right and which they are.
+    // It judges all but whether Annex G's checks are right and which they are, and that data frames to
+    // a slave get no warning under Annex G.
     ButChecks(Told),
 }
 

@@ -1,6 +1,6 @@
 // What is counted for each function, call by call.
 
-use std::collections::BTreeMap;
+use std::collections::{BTreeMap, BTreeSet};
 use std::fmt::Write;
 
 use crate::call::Call;
@@ -25,6 +25,7 @@ pub struct Tally {
     whole: u64,
     but_checks: u64,
     sights: BTreeMap<Sight, u64>,
+    headers: BTreeSet<[u8; 4]>,
     pub spoiler: Option<Spoiler>,
 }
 
@@ -39,6 +40,7 @@ impl Tally {
             whole: 0,
             but_checks: 0,
             sights: BTreeMap::new(),
+            headers: BTreeSet::new(),
             spoiler,
         }
     }
@@ -73,6 +75,12 @@ impl Tally {
         *self.sights.entry(sight).or_default() += 1;
     }
 
+    // Counts a kind of MS/TP header: rule, type, classes of destination and source. Those that come
+    // again count once.
+    pub fn see_header(&mut self, header: [u8; 4]) {
+        self.headers.insert(header);
+    }
+
     // What is wrong with the coverage: too few inputs, answers or sights that never came.
     pub fn gaps(&self, answers: &[u8], sights: &str) -> Vec<String> {
         let mut gaps = Vec::new();
@@ -82,10 +90,15 @@ impl Tally {
         let unseen = |answer: &&u8| self.answers[usize::from(**answer)] == 0;
         let missing = answers.iter().filter(unseen);
         gaps.extend(missing.map(|answer| format!("no answer {}", answer_text(*answer))));
-        let seen: Vec<String> = self.sights.keys().map(sight_text).collect();
+        let headers = format!("h{}", self.headers.len());
+        let mut seen: Vec<String> = self.sights.keys().map(sight_text).collect();
+        seen.push(headers.clone());
         let unseen = |sight: &&str| seen.iter().all(|seen| seen != sight);
         let missing = sights.split_whitespace().filter(unseen);
-        gaps.extend(missing.map(|sight| format!("no {sight}")));
+        gaps.extend(missing.map(|sight| match sight.starts_with('h') {
+            true => format!("{headers} for {sight}"),
+            false => format!("no {sight}"),
+        }));
         gaps
     }
 
@@ -100,6 +113,9 @@ impl Tally {
         let mut sights = String::new();
         for (sight, count) in &self.sights {
             write!(sights, "{}: {count}, ", sight_text(sight)).unwrap();
+        }
+        if !self.headers.is_empty() {
+            write!(sights, "h{}", self.headers.len()).unwrap();
         }
         let texts = [refused, sights].map(|text| text.trim_end_matches(", ").to_string());
         let [refused, sights] = texts;

@@ -12,7 +12,7 @@ use shared::model::findings::{Findings, Link};
 use shared::model::validators;
 use shared::octets::hex;
 use shared::random::Random;
-use shared::rust::findings::told;
+use shared::rust::findings::{told, told_under_annex_g};
 
 use crate::call::Call;
 use crate::check::Rule;
@@ -43,9 +43,11 @@ pub fn mstp_frame(tally: &mut Tally, random: &mut Random) {
         model: validators::mstp,
         rust: validate_mstp_frame,
     };
-    mstp::inputs().under_rules(FRAMES, random, &mut |random, rule, frame| {
+    let mut ask = |random: &mut Random, rule: u8, frame: &[u8]| {
         validate(tally, random, &validator, rule, frame);
-    });
+    };
+    mstp::types_and_addresses(random, &mut ask);
+    mstp::inputs().under_rules(FRAMES, random, &mut ask);
 }
 
 // Compares the IP validator.
@@ -89,9 +91,11 @@ pub fn any_frame(tally: &mut Tally, random: &mut Random) {
         model: validators::frame,
         rust: validate_frame,
     };
-    any::frames().under_rules(FRAMES, random, &mut |random, rule, frame| {
+    let mut ask = |random: &mut Random, rule: u8, frame: &[u8]| {
         validate(tally, random, &validator, rule, frame);
-    });
+    };
+    mstp::types_and_addresses(random, &mut ask);
+    any::frames().under_rules(FRAMES, random, &mut ask);
 }
 
 // One frame validated.
@@ -102,6 +106,7 @@ fn validate(tally: &mut Tally, random: &mut Random, validator: &Validator, rule:
     let found = Rule::of(rule).map(|rule| {
         let found = (validator.model)(rule, frame);
         see(tally, &found);
+        see_mstp_header(tally, rule, frame, &found);
         let (judge, told) = rust_findings(rule, frame, &found, validator.rust);
         rust = judge(Ok(told.written()));
         found
@@ -116,7 +121,8 @@ fn validate(tally: &mut Tally, random: &mut Random, validator: &Validator, rule:
 }
 
 // What the Rust finds, and how much of it it judges. An MS/TP frame under Annex G it gets as the house
-// rule has it, and the numbers in its entries of kind 4 are then the model's.
+// rule has it; the numbers in its entries of kind 4 are then the model's, and what it warns of and
+// Annex G does not is left out.
 pub fn rust_findings(
     rule: Rule,
     frame: &[u8],
@@ -127,13 +133,29 @@ pub fn rust_findings(
     if rule == Rule::House || !checked {
         return (Rust::Whole, told(&validate(frame)));
     }
-    let mut found = told(&validate(&as_house(frame)));
+    let mut found = told_under_annex_g(frame, &validate(&as_house(frame)));
     let checks = model.errors.iter().filter(|error| error[0] == 4);
     let mine = found.errors.iter_mut().filter(|error| error[0] == 4);
     for (error, check) in mine.zip(checks) {
         *error = *check;
     }
     (Rust::ButChecks, found)
+}
+
+// Counts MS/TP frames by rule, type, and the classes of their addresses.
+pub fn see_mstp_header(tally: &mut Tally, rule: Rule, frame: &[u8], found: &Findings) {
+    if let (Link::Mstp, [_, _, kind, to, from, _, _, _, ..]) = (found.link, frame) {
+        tally.see_header([rule as u8, *kind, class(*to), class(*from)]);
+    }
+}
+
+// The class of an address: a master, a slave, or all stations.
+fn class(address: u8) -> u8 {
+    match address {
+        0..=127 => 0,
+        128..=254 => 1,
+        255 => 2,
+    }
 }
 
 // Counts what was found: kinds, with the reasons that they have, links, and how many errors.

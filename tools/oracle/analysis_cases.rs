@@ -11,7 +11,7 @@ use crate::analysis_list::analysis;
 use crate::check::{Rule, RULES};
 use crate::ethernet_list::STATIONS;
 use crate::list::List;
-use crate::mstp_list::{DATA, REQUEST, TOKEN};
+use crate::mstp_list::{DATA, REQUEST, SLAVE, TOKEN};
 use crate::patterns_cases::together;
 use crate::statistics_cases::{repeats, LONG};
 
@@ -48,7 +48,8 @@ fn fronts(list: &mut List) {
     }
 }
 
-// Good frames of each kind with texts and padding in them, also with an octet changed.
+// Good frames of each kind with texts and padding in them, one of them to a slave; also with an octet
+// changed.
 fn good_frames(list: &mut List) {
     for rule in RULES {
         let mstp = written(rule, REQUEST, TEXTS);
@@ -60,6 +61,7 @@ fn good_frames(list: &mut List) {
             message(0x01, TEXTS),
             message(0x0B, TEXTS),
             ethernet_written(STATIONS, TEXTS),
+            written(rule, [0x06, SLAVE, 0x05], TEXTS),
         ];
         for octets in frames {
             all_sizes(list, rule, &octets);

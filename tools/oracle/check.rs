@@ -33,6 +33,10 @@ impl Rule {
 }
 
 impl Checks for Rule {
+    fn is_annex_g(self) -> bool {
+        self == Rule::AnnexG
+    }
+
     fn header_check(self, five: [u8; 5]) -> u8 {
         match self {
             Rule::House => House.header_check(five),

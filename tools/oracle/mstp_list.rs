@@ -34,6 +34,9 @@ pub const DATA: [u8; 3] = [0x01, 0x22, 0x30];
 pub const TOKEN: [u8; 3] = [0x00, 0x10, 0x05];
 pub const REQUEST: [u8; 3] = [0x05, 0x10, 0x05];
 
+// An address of a slave.
+pub const SLAVE: u8 = 200;
+
 // Adds the header check of five octets.
 pub fn header(list: &mut List, rule: Rule, five: [u8; 5]) {
     let check = rule.header_check(five);

@@ -7,10 +7,7 @@ use shared::random::Random;
 use crate::analysis_list::{frame, mstp, FEW, MANY, VERY_MANY};
 use crate::check::Rule;
 use crate::list::List;
-use crate::mstp_list::{DATA, REQUEST, TOKEN};
-
-// An address of a slave.
-const SLAVE: u8 = 200;
+use crate::mstp_list::{DATA, REQUEST, SLAVE, TOKEN};
 
 // So many zeros have the data check 0000 under both rules, and twice as many too.
 const CHECK_OF_ZEROS: usize = 32_767;
@@ -30,6 +27,7 @@ pub fn cases(list: &mut List, rule: Rule, random: &mut Random) {
     single_changes(list, rule);
     other_rule(list, rule);
     random_frames(list, rule, random);
+    to_slaves(list, rule);
 }
 
 // Adds what both validators that take a rule answer.
@@ -58,16 +56,21 @@ fn types(list: &mut List, rule: Rule) {
 // also every destination and every source.
 fn addresses(list: &mut List, rule: Rule) {
     for kind in [0, 3, 8, 128] {
-        for destination in [0, 127, 128, 254, 255] {
-            for source in [0, 127, 128, 254, 255] {
-                mstp(list, rule, &written(rule, [kind, destination, source], &[]));
-            }
-        }
+        borders(list, rule, kind);
     }
     if let Rule::House = rule {
         for address in 0..=255 {
             mstp(list, rule, &written(rule, [0x00, address, 0x05], &[]));
             mstp(list, rule, &written(rule, [0x00, SLAVE, address], &[]));
+        }
+    }
+}
+
+// A type with each destination and source at a border.
+fn borders(list: &mut List, rule: Rule, kind: u8) {
+    for destination in [0, 127, 128, 254, 255] {
+        for source in [0, 127, 128, 254, 255] {
+            mstp(list, rule, &written(rule, [kind, destination, source], &[]));
         }
     }
 }
@@ -128,15 +131,26 @@ fn warnings_and_faults(list: &mut List, rule: Rule) {
     for [proprietary, slave, preamble, header, size, check] in choices() {
         let kind = if proprietary { 0xFE } else { 0x06 };
         let destination = if slave { SLAVE } else { 0x10 };
-        let mut octets = written(rule, [kind, destination, 0x05], &DATA);
-        octets[1] ^= 0x80 * u8::from(preamble);
-        octets[7] ^= 0x80 * u8::from(header);
-        octets[10] ^= 0x80 * u8::from(check);
-        if size {
-            octets.push(0xFF);
-        }
-        mstp(list, rule, &octets);
+        let faults = [preamble, header, size, check];
+        mstp(
+            list,
+            rule,
+            &with_faults(rule, [kind, destination, 0x05], faults),
+        );
     }
+}
+
+// A frame with data and four faults, each there or not: preamble, header check, size, data check.
+fn with_faults(rule: Rule, three: [u8; 3], faults: [bool; 4]) -> Vec<u8> {
+    let [preamble, header, size, check] = faults;
+    let mut octets = written(rule, three, &DATA);
+    octets[1] ^= 0x80 * u8::from(preamble);
+    octets[7] ^= 0x80 * u8::from(header);
+    octets[10] ^= 0x80 * u8::from(check);
+    if size {
+        octets.push(0xFF);
+    }
+    octets
 }
 
 // A data frame, good and with two wrong data checks: octets left over, and octets missing.
@@ -220,5 +234,21 @@ fn random_frames(list: &mut List, rule: Rule, random: &mut Random) {
     }
     for _ in 0..40 {
         frame(list, rule, &then(&[0x55, 0xFF], &random.fewer(21)));
+    }
+}
+
+// Every type from a master to a slave, types 0 to 7 also with data, by both validators. Types 0 to 7
+// with addresses at the borders; and type 7, which is unusual to a slave under both rules, with every
+// choice of four faults.
+fn to_slaves(list: &mut List, rule: Rule) {
+    for kind in 0..=255 {
+        mstp(list, rule, &written(rule, [kind, SLAVE, 0x05], &[]));
+    }
+    for kind in 0..8 {
+        both(list, rule, &written(rule, [kind, SLAVE, 0x05], &DATA));
+        borders(list, rule, kind);
+    }
+    for faults in choices() {
+        mstp(list, rule, &with_faults(rule, [0x07, SLAVE, 0x05], faults));
     }
 }

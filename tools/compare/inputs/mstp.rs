@@ -5,7 +5,7 @@ use shared::model::mstp::written;
 use shared::random::Random;
 
 use crate::check::Rule;
-use crate::inputs::{one_in, one_of, Octets};
+use crate::inputs::{both, one_in, one_of, AskUnder, Octets};
 
 // Data lengths around the limits, and beyond them.
 const LENGTHS: [usize; 13] = [
@@ -13,15 +13,42 @@ const LENGTHS: [usize; 13] = [
 ];
 const LONG: [usize; 6] = [1000, 1514, 2000, 65_525, 65_526, 65_535];
 
+// The first and the last address of masters and of slaves, and that of all stations.
+const BORDERS: [u8; 5] = [0, 127, 128, 254, 255];
+
+// Data of a short frame.
+const DATA: [u8; 3] = [0x01, 0x22, 0x30];
+
 // What frames are made from.
 pub fn inputs() -> Octets {
     let mut fixed = Vec::new();
     for rule in Rule::ALL {
         fixed.push(written(rule, [0x00, 0x10, 0x05], &[]));
-        fixed.push(written(rule, [0x05, 0x10, 0x05], &[0x01, 0x22, 0x30]));
+        fixed.push(written(rule, [0x05, 0x10, 0x05], &DATA));
         fixed.push(written(rule, [0x80, 0x90, 0x7F], &[0x55, 0xFF]));
     }
     Octets { fixed, good, near }
+}
+
+// Every type with every pair of addresses at the borders.
+pub fn types_and_addresses(random: &mut Random, ask: AskUnder) {
+    for kind in 0..=255 {
+        for destination in BORDERS {
+            for source in BORDERS {
+                forms(random, [kind, destination, source], ask);
+            }
+        }
+    }
+}
+
+// A frame of a type, a destination and a source, without data and with some; written under each rule,
+// and asked under both.
+fn forms(random: &mut Random, three: [u8; 3], ask: AskUnder) {
+    for rule in Rule::ALL {
+        for data in [&[][..], &DATA] {
+            both(random, &written(rule, three, data), ask);
+        }
+    }
 }
 
 // One of the two rules.

@@ -1,6 +1,10 @@
-// The check octets. Each tool works them out in its own way, so the model takes them from outside.
+// A check rule. Each tool works out the check octets in its own way, so the model takes them from
+// outside.
 
 pub trait Checks: Copy {
+    // Whether it is the Annex G rule; else it is the house rule.
+    fn is_annex_g(self) -> bool;
+
     // The header check of five octets.
     fn header_check(self, five: [u8; 5]) -> u8;
 

@@ -1,5 +1,5 @@
-// What document 01 says of each call: the questions in their order, and the result where none fails.
-// A refusal is the question's number.
+// What document 01, with document 02's changes, says of each call: the questions in their order, and
+// the result where none fails. A refusal is the question's number.
 
 pub mod analysis;
 pub mod bvlc;

@@ -7,6 +7,7 @@ use crate::model::{mstp, validators};
 
 // Panics unless the trials come out under the two rules' checks.
 pub fn try_all<C: Checks>(annex_g: C, house: C) {
+    assert!(annex_g.is_annex_g() && !house.is_annex_g(), "the rules");
     try_checks(annex_g, house);
     try_patterns();
     let unknown = [0x81, 0x0D, 0x00, 0x04];

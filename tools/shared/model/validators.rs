@@ -1,4 +1,5 @@
-// The findings of the four validators, from document 01's lists of tests.
+// The findings of the four validators, from document 01's lists of tests, with document 02's warning
+// about a slave.
 
 use crate::model::checks::Checks;
 use crate::model::findings::{Entry, Findings, Link};
@@ -39,12 +40,21 @@ pub fn mstp(rule: impl Checks, octets: &[u8]) -> Findings {
         (size != total).then_some([8, total, size]),
         data_error(rule, octets, length),
     ];
-    let to_slave = source <= 127 && (128..=254).contains(&destination) && kind != 3;
+    let to_slave = source <= 127 && (128..=254).contains(&destination);
+    let unusual = !usual_to_slave(rule).contains(&kind);
     let warnings = [
         (kind >= 128).then_some([3, 1, kind]),
-        to_slave.then_some([3, 2, 0]),
+        (to_slave && unusual).then_some([3, 2, 0]),
     ];
     result(Link::Mstp, octets, &errors, &warnings)
+}
+
+// The types that a master usually sends to a slave: test requests, under Annex G data frames too.
+fn usual_to_slave(rule: impl Checks) -> &'static [usize] {
+    match rule.is_annex_g() {
+        true => &[3, 5, 6],
+        false => &[3],
+    }
 }
 
 // The error of an MS/TP frame's header check.

@@ -9,6 +9,10 @@ use crate::model::checks::Checks;
 pub struct House;
 
 impl Checks for House {
+    fn is_annex_g(self) -> bool {
+        false
+    }
+
     fn header_check(self, five: [u8; 5]) -> u8 {
         opened_header_crc(&five)
     }

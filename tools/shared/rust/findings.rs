@@ -7,6 +7,9 @@ use bacnet::datalink::DataLinkType;
 use crate::model::findings::{Entry, Findings, Link};
 use crate::octets::number;
 
+// The warning of a frame from a master to a slave.
+const MASTER_TO_SLAVE: Entry = [3, 2, 0];
+
 // The Rust's result.
 pub fn told(result: &ValidationResult) -> Findings {
     Findings {
@@ -16,6 +19,16 @@ pub fn told(result: &ValidationResult) -> Findings {
         errors: result.errors.iter().map(error).collect(),
         warnings: result.warnings.iter().map(warning).collect(),
     }
+}
+
+// The Rust's result for an MS/TP frame, as far as it holds under Annex G: data frames to a slave get no
+// warning there.
+pub fn told_under_annex_g(frame: &[u8], result: &ValidationResult) -> Findings {
+    let mut found = told(result);
+    if matches!(frame, [_, _, 5 | 6, ..]) {
+        found.warnings.retain(|warning| *warning != MASTER_TO_SLAVE);
+    }
+    found
 }
 
 // The Rust's link kind.
@@ -85,7 +98,7 @@ fn non_standard(text: &str) -> Entry {
         return [3, 1, numeral(kind, 10)];
     }
     match text {
-        "Master communicating with slave without Test Request" => [3, 2, 0],
+        "Master communicating with slave without Test Request" => MASTER_TO_SLAVE,
         "Multicast address used instead of broadcast" => [3, 3, 0],
         _ => panic!("a warning of no reason: {text:?}"),
     }
