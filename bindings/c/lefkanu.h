@@ -8,7 +8,8 @@
    01's questions that fails, LEFKANU_NONE, or, before any question is asked, LEFKANU_NO_CASE where a number names no rule,
    type or function; then nothing was written. Only lefkanu_layout_version answers something else.
 
-   Rules: LEFKANU_ANNEX_G or LEFKANU_HOUSE, whose octets are those of bacnet-rs.
+   Rules: LEFKANU_ANNEX_G or LEFKANU_HOUSE, whose octets are those of bacnet-rs. The rule decides the check octets, and
+   one warning of the validators.
 
    Layout: how many numbers a caller lends by each pointer, and which number stands where. Its version is raised with
    each change. LEFKANU_LAYOUT_VERSION is the one that a program is compiled for, and lefkanu_layout_version answers that
@@ -134,7 +135,8 @@ uint8_t lefkanu_ethernet_encode(const uint8_t dest_mac[6], const uint8_t src_mac
 
 /* The validators of validation.rs. result: 1 if valid else 0, link (0 none, 1 BACnet/IP, 2 Ethernet, 3 MS/TP), size, how
    many errors, how many warnings, then seven entries for errors and two for warnings, each a kind and two numbers; an
-   unused entry is all 0. */
+   unused entry is all 0. docs/QUESTIONS.md has the kinds and their numbers. Warning 3, reason 2: a master sends to a
+   slave, and the frame is not a test request (type 3) nor, under Annex G, a data frame (type 5 or 6). */
 #define LEFKANU_RESULT_NUMBERS 32
 uint8_t lefkanu_validate_mstp_frame(uint8_t rule, const uint8_t *frame, size_t frame_octets, size_t result[32]);
 void lefkanu_validate_bacnet_ip_frame(const uint8_t *message, size_t message_octets, size_t result[32]);

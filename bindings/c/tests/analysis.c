@@ -90,6 +90,17 @@ static void refuse_analysis(uint8_t rule, octets frame, size_t room, uint8_t ans
                    answer);
 }
 
+/* The findings of an analysis. */
+static void expect_findings(uint8_t rule, octets frame, const size_t *expected)
+{
+    size_t *result = lend_numbers(LEFKANU_RESULT_NUMBERS), *counts = lend_numbers(LEFKANU_COUNT_NUMBERS);
+    size_t *count = lend_numbers(1);
+    uint32_t *byte_distribution = lend_words(256), *out = lend_words(8);
+    expect_answer(lefkanu_analyze_frame(rule, frame.at, frame.count, result, byte_distribution, counts, out, 8, count),
+                  0);
+    expect_numbers(result, LEFKANU_RESULT_NUMBERS, expected);
+}
+
 static void test_analysis_of_frames(void)
 {
     begin("analyze_frame");
@@ -107,6 +118,12 @@ static void test_analysis_of_frames(void)
     expect_numbers(counts, NUMBERS(1, 1, 0x41, 5, 4));
     expect_numbers(count, NUMBERS(2));
     expect_words(out, WORDS(1, 4, 5, 0x41, 2, 4, 5, 0, 0xA5A5A5A5));
+
+    begin("analyze_frame, data to a slave");
+    const size_t clean[LEFKANU_RESULT_NUMBERS] = {1, 3, 8};
+    expect_findings(LEFKANU_ANNEX_G, given("55 FF 05 80 00 00 00 2E"), clean);
+    const size_t warned[LEFKANU_RESULT_NUMBERS] = {1, 3, 8, 0, 1, [26] = 3, 2, 0};
+    expect_findings(LEFKANU_HOUSE, given("55 FF 05 80 00 00 00 8F"), warned);
 
     begin("analyze_frame, too long");
     refuse_analysis(LEFKANU_ANNEX_G, filled(0x55, 65536), 100, 31);

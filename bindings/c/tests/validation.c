@@ -53,6 +53,17 @@ static void test_mstp_frames(void)
     begin("validate_mstp_frame, two warnings");
     mstp(LEFKANU_HOUSE, given("55 FF 80 80 00 00 00 CE"), RESULT(1, 3, 8, 0, 2, WARNINGS = 3, 1, 128, 3, 2, 0));
 
+    begin("validate_mstp_frame, data to a slave");
+    mstp(LEFKANU_ANNEX_G, given("55 FF 05 80 00 00 00 2E"), RESULT(1, 3, 8));
+    mstp(LEFKANU_ANNEX_G, given("55 FF 06 FE 7F 00 00 A8"), RESULT(1, 3, 8));
+    mstp(LEFKANU_HOUSE, given("55 FF 05 80 00 00 00 8F"), RESULT(1, 3, 8, 0, 1, WARNINGS = 3, 2, 0));
+    mstp(LEFKANU_HOUSE, given("55 FF 06 FE 7F 00 00 E0"), RESULT(1, 3, 8, 0, 1, WARNINGS = 3, 2, 0));
+    begin("validate_mstp_frame, a test request to a slave");
+    mstp(LEFKANU_ANNEX_G, given("55 FF 03 80 00 00 00 3F"), RESULT(1, 3, 8));
+    mstp(LEFKANU_HOUSE, given("55 FF 03 80 00 00 00 EE"), RESULT(1, 3, 8));
+    begin("validate_mstp_frame, another type to a slave");
+    mstp(LEFKANU_ANNEX_G, given("55 FF 07 80 00 00 00 21"), RESULT(1, 3, 8, 0, 1, WARNINGS = 3, 2, 0));
+
     begin("validate_mstp_frame, no rule");
     octets token = given("55 FF 00 10 05 00 00 8C");
     size_t *result = lend_numbers(LEFKANU_RESULT_NUMBERS);
@@ -96,6 +107,9 @@ static void test_any_frames(void)
     any(LEFKANU_HOUSE, given("55 FE"), RESULT(0, 0, 2, 1, 0, 7, 4, 0));
     begin("validate_frame, MS/TP");
     any(LEFKANU_HOUSE, given("55 FF 00 10 05 00 00 9A"), RESULT(1, 3, 8));
+    begin("validate_frame, MS/TP, data to a slave");
+    any(LEFKANU_ANNEX_G, given("55 FF 05 80 00 00 00 2E"), RESULT(1, 3, 8));
+    any(LEFKANU_HOUSE, given("55 FF 05 80 00 00 00 8F"), RESULT(1, 3, 8, 0, 1, WARNINGS = 3, 2, 0));
     begin("validate_frame, BACnet/IP");
     any(LEFKANU_ANNEX_G, given("81 0B 00 04"), RESULT(1, 1, 4));
     begin("validate_frame, Ethernet");

@@ -1,6 +1,7 @@
 //! The enums whose cases are numbers in the library; each is public where it belongs.
 
-/// By which constants the check octets of MS/TP frames are calculated.
+/// By which constants the check octets of MS/TP frames are calculated. It also decides one warning of the validators:
+/// under Annex G a data frame from a master to a slave does not get it.
 #[derive(Debug, Clone, Copy, PartialEq, Eq, Hash)]
 #[repr(u8)]
 pub enum CheckRule {

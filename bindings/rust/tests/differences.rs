@@ -181,13 +181,15 @@ fn a_master_that_sends_to_a_slave() {
     let warning = ValidationWarning::NonStandardConfiguration {
         reason: ConfigurationReason::MasterToSlave,
     };
-    for (rule, frame) in [
-        (AnnexG, "55 FF 00 80 00 00 00 B6"),
-        (House, "55 FF 00 80 00 00 00 8B"),
+    for (rule, frame, warnings) in [
+        (House, "55 FF 00 80 00 00 00 8B", vec![warning.clone()]),
+        (House, "55 FF 05 80 00 00 00 8F", vec![warning.clone()]),
+        (AnnexG, "55 FF 05 80 00 00 00 2E", vec![]),
+        (AnnexG, "55 FF 06 80 00 00 00 A7", vec![]),
+        (AnnexG, "55 FF 00 80 00 00 00 B6", vec![warning]),
     ] {
         let result = validate_mstp_frame(rule, &octets(frame));
-        assert!(result.is_valid);
-        assert_eq!(result.warnings, std::slice::from_ref(&warning));
+        assert_eq!((result.is_valid, result.warnings), (true, warnings));
     }
 }
 

@@ -3,10 +3,11 @@
 mod common;
 
 use common::{octets, RULES};
+use lefkanu::datalink::mstp::calculate_header_crc;
 use lefkanu::datalink::validation::{
-    validate_bacnet_ip_frame, validate_ethernet_frame, validate_frame, validate_mstp_frame,
-    AddressReason, ConfigurationReason, HeaderReason, SecurityReason, SuspiciousReason,
-    ValidationError, ValidationResult, ValidationWarning,
+    analyze_frame, validate_bacnet_ip_frame, validate_ethernet_frame, validate_frame,
+    validate_mstp_frame, AddressReason, ConfigurationReason, HeaderReason, SecurityReason,
+    SuspiciousReason, ValidationError, ValidationResult, ValidationWarning,
 };
 use lefkanu::datalink::DataLinkType;
 use lefkanu::CheckRule::{AnnexG, House};
@@ -75,8 +76,11 @@ fn mstp_valid() {
         (House, "55 FF 00 10 05 00 00 9A"),
         (AnnexG, "55 FF 06 05 10 00 03 DA 01 22 30 10 BD"),
         (House, "55 FF 06 05 10 00 03 E0 01 22 30 C7 4B"),
-        // No warning: a test request to a slave, a master to all, a slave to a slave.
+        // No warning: a test request to a slave, data to a slave, a master to all, a slave to a slave.
         (AnnexG, "55 FF 03 80 00 00 00 3F"),
+        (AnnexG, "55 FF 05 80 00 00 00 2E"),
+        (AnnexG, "55 FF 06 FE 7F 00 00 A8"),
+        (AnnexG, "55 FF 05 80 05 00 03 D1 01 22 30 10 BD"),
         (AnnexG, "55 FF 00 FF 7F 00 00 30"),
         (AnnexG, "55 FF 00 FE 80 00 00 A8"),
     ] {
@@ -202,7 +206,12 @@ fn mstp_warnings() {
         (AnnexG, "55 FF FF 00 00 00 00 FF", vec![proprietary(255)]),
         (
             AnnexG,
-            "55 FF 06 FE 7F 00 00 A8",
+            "55 FF 07 FE 7F 00 00 2E",
+            vec![master_to_slave.clone()],
+        ),
+        (
+            House,
+            "55 FF 05 80 00 00 00 8F",
             vec![master_to_slave.clone()],
         ),
         (
@@ -219,6 +228,37 @@ fn mstp_warnings() {
         let expected = mstp(8, &[], &warnings);
         assert_eq!(validate_mstp_frame(rule, &octets(frame)), expected);
     }
+}
+
+/// Every type with every pair of addresses at the borders of masters, slaves and all stations.
+#[test]
+fn types_to_slaves() {
+    for (rule, usual) in [(AnnexG, &[3, 5, 6][..]), (House, &[3])] {
+        for kind in 0..=255 {
+            for (destination, source) in pairs() {
+                let header = [kind, destination, source, 0, 0];
+                let check = calculate_header_crc(rule, &header);
+                let frame = [&[0x55, 0xFF], &header[..], &[check]].concat();
+                let to_slave = source < 128 && (128..255).contains(&destination);
+                let warned = to_slave && !usual.contains(&kind);
+                let result = validate_mstp_frame(rule, &frame);
+                let warning = configuration(ConfigurationReason::MasterToSlave);
+                assert_eq!(result.warnings.contains(&warning), warned, "{frame:02X?}");
+                let valid = !(8..128).contains(&kind) && source != 255;
+                assert_eq!(result.is_valid, valid, "{frame:02X?}");
+                assert_eq!(validate_frame(rule, &frame), result);
+                assert_eq!(analyze_frame(rule, &frame).unwrap().validation, result);
+            }
+        }
+    }
+}
+
+/// Every destination and source at a border.
+fn pairs() -> impl Iterator<Item = (u8, u8)> {
+    let borders = [0, 127, 128, 254, 255];
+    borders
+        .into_iter()
+        .flat_map(move |to| borders.map(|from| (to, from)))
 }
 
 #[test]

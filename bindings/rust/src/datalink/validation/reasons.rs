@@ -50,7 +50,8 @@ impl fmt::Display for HeaderReason {
 pub enum ConfigurationReason {
     /// An MS/TP frame of this type, 128 or more.
     ProprietaryType(u8),
-    /// A master sends to a slave, and no test request.
+    /// A master sends a slave something other than a test request (type 3) or, under Annex G, a data frame (type 5 or
+    /// 6). The text is bacnet-rs's under both rules.
     MasterToSlave,
     /// An Ethernet frame goes to several stations and not to all.
     Multicast,
