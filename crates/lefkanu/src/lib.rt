@@ -1,7 +1,8 @@
 // The octet layer for programs in Rust and C, as a static library: numbers, slices of numbers and lent numbers only. Each
 // function answers 0 where there is a result, and then it stands in the lent memory; else the number of the question that
-// fails, FE for "none" and "start reached", or FF where a number names no rule, type or function, and writes nothing. The
-// version of the layout is answered as it is. `numbers` has the layout of results, `answers` how answers are told.
+// fails, FE for "none" and "start reached", or FF where a number names no rule, type or function, or numbers no state, and
+// writes nothing. The version of the layout is answered as it is. `numbers` has the layout of results, `answers` how
+// answers are told.
 mod bus_runs;
 mod bvlc_messages;
 mod checks;
@@ -10,6 +11,7 @@ mod frame_analysis;
 mod layout;
 mod log_records;
 mod mstp_frames;
+mod padding_states;
 mod validators;
 
 pub use bus_runs::lefkanu_count_frames;
@@ -32,6 +34,8 @@ pub use log_records::lefkanu_read_record;
 pub use mstp_frames::lefkanu_data_link_error;
 pub use mstp_frames::lefkanu_mstp_decode;
 pub use mstp_frames::lefkanu_mstp_encode;
+pub use padding_states::lefkanu_padding_length;
+pub use padding_states::lefkanu_padding_step;
 pub use validators::lefkanu_validate_bacnet_ip_frame;
 pub use validators::lefkanu_validate_ethernet_frame;
 pub use validators::lefkanu_validate_frame;

@@ -1,2 +1,3 @@
 pub mod Layouts
 pub mod Named
+pub mod States

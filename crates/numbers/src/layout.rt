@@ -3,9 +3,12 @@ use bip_header::BvlcHeader;
 use mstp_decode::DataCrc;
 use mstp_decode::MstpHeader;
 use mstp_frame::MSTP_HEADER_SIZE;
+use padding::PaddingState;
 use statistics::FrameStatistics;
 ghost use mathlib.Core.Path.{_≡_};
 ghost use Rattle.numbers.specs.Layout.{layoutVersion, dataCrcThere, dataCrcNumber, headerNumbers, bvlcNumbers, countNumbers};
+ghost use Rattle.numbers.specs.State.{stateNumbers, stateOf, WhereKnown};
+ghost use Rattle.numbers.specs.declared.layout.StateRead.the-variants.{Known};
 
 // The version of the layout, raised whenever what a caller lends changes, or which number stands where.
 pub fn layout_version() -> u32
@@ -81,4 +84,38 @@ pub fn bvlc_numbers(header: BvlcHeader) -> [usize; 2]
 {
     let function = header.function;
     [wide(function.to_u8()), header.length as usize]
+}
+
+// The numbers of a state of the search for padding: 1 if an octet came yet else 0, the last octet, its run. They name this
+// state.
+pub fn state_numbers(state: PaddingState) -> [usize; 3]
+    ensures { λ r. ⌜ r ≡ stateNumbers state ⌝ }
+    ensures back { λ r. ⌜ stateOf r ≡ Known state ⌝ }
+{
+    [octets::one_if(state.started), wide(state.last), state.run]
+}
+
+// What three numbers name: a state of the search for padding, or none.
+pub enum StateRead {
+    Known(PaddingState),
+    Unknown,
+}
+
+// The state that three numbers name, of which they are the numbers. The first is 0 or 1 and the second an octet, or they
+// name none.
+pub fn state_of(numbers: [usize; 3]) -> StateRead
+    ensures { λ r. ⌜ r ≡ stateOf numbers ⌝ }
+    ensures back { λ r. ⌜ WhereKnown (λ a. numbers ≡ stateNumbers a) r ⌝ }
+{
+    if 1 < numbers[0] {
+        return StateRead::Unknown;
+    }
+    if 255 < numbers[1] {
+        return StateRead::Unknown;
+    }
+    StateRead::Known(PaddingState {
+        started: numbers[0] == 1,
+        last: numbers[1] as u8,
+        run: numbers[2],
+    })
 }

@@ -3,10 +3,13 @@ mod layout;
 
 use crc::CheckRule;
 use datalink::DataLinkError;
+pub use layout::StateRead;
 pub use layout::bvlc_numbers;
 pub use layout::count_numbers;
 pub use layout::header_numbers;
 pub use layout::layout_version;
+pub use layout::state_numbers;
+pub use layout::state_of;
 ghost use mathlib.Core.Path.{_≡_};
 ghost use Rattle.numbers.specs.Layout.{errorNumber};
 ghost use Rattle.numbers.specs.Named.{ruleOf};

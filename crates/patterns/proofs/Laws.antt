@@ -9,9 +9,10 @@ use native.Mathlib.Omega.{arith}
 use borrow.Author.Tests.{leb-true, le-leb}
 use lib.Dec.{leb}
 use lib.ListN.{length, getD}
+use Rattle.padding.specs.Padding.{last, paddingLength}
 use Rattle.patterns.specs.declared.Entry.{Entry}
 use Rattle.patterns.specs.Stretches.{Stretch, stretch, stretches}
-use Rattle.patterns.specs.Entries.{entry, when, mark, last, paddingLength, padding, printable, text, texts, hasZeros, hasSequence, entries, numbersOf, entryNumbers}
+use Rattle.patterns.specs.Entries.{entry, when, mark, padding, printable, text, texts, hasZeros, hasSequence, entries, numbersOf, entryNumbers}
 use Rattle.patterns.specs.Laws.{numbersAt, EntryAt, Shown, Padding, Text}
 use Rattle.patterns.proofs.Stretches.{each, every}
 use Rattle.patterns.proofs.Paddings.{padding-is, padding-only}

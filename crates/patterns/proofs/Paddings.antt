@@ -5,37 +5,32 @@ use mathlib.Core.Bool.{Bool, true, false, cond}
 use mathlib.Core.List.{List, reverse}
 use Prim.Native.Nat.{ℕ, zero, suc, _+_, _-_, _≤_, _<_}
 use native.Mathlib.Omega.{arith}
-use borrow.Author.Tests.{le-leb, lt-leb}
+use borrow.Author.Tests.{le-leb}
 use lib.Dec.{leb}
 use lib.ListN.{length, getD, drop, length-drop}
 use lib.Seq.{getD-drop}
 use Rattle.runs.specs.Front.{is, front}
 use Rattle.runs.proofs.Front.{is-eq, is-ne, is-true, is-false}
-use Rattle.runs.proofs.Back.{same, getD-reverse, back-le, back-all, back-stops, back-is}
-use Rattle.patterns.specs.Entries.{endLength, paddingLength, last}
+use Rattle.runs.proofs.Back.{same, back-le, back-all, back-stops, back-is}
+use Rattle.padding.specs.Padding.{last, endLength, paddingLength}
+use Rattle.padding.proofs.States.{last-behind}
 use Rattle.patterns.specs.Laws.{Padding}
 
 module _ (s : List ℕ) where
-  -- without the first octet, place j is place j + 1, and the last octet is the same
+  -- without the first octet, place j is place j + 1
   behind : (j : ℕ) → getD (drop 1 s) j 0 ≡ getD s (j + 1) 0
   behind j = getD-drop 1 s j 0 ∙ same s (1 + j) (j + 1) (omega arith)
 
-  last-behind : 2 ≤ length s → getD (reverse (drop 1 s)) 0 0 ≡ last s
-  last-behind h =
-      getD-reverse (drop 1 s) 0 (omega (arith, length-drop 1 s))
-      ∙ behind (length (drop 1 s) - 1 - 0)
-      ∙ same s (length (drop 1 s) - 1 - 0 + 1) (length s - 1) (omega (arith, length-drop 1 s))
-
-  pub end-le : endLength s ≤ length s - 1
+  end-le : endLength s ≤ length s - 1
   unfolding endLength
   end-le = omega (arith, back-le (is (getD (reverse (drop 1 s)) 0 0)) (drop 1 s), length-drop 1 s)
 
   end-front : 2 ≤ length s → endLength s ≡ front (is (last s)) (reverse (drop 1 s))
   unfolding endLength
-  end-front h = ap (λ (x : ℕ). front (is x) (reverse (drop 1 s))) (last-behind h)
+  end-front h = ap (λ (x : ℕ). front (is x) (reverse (drop 1 s))) (last-behind s h)
 
   -- each of them equals the last
-  pub end-all : (j : ℕ) → j < length s → length s ≤ j + endLength s → getD s j 0 ≡ last s
+  end-all : (j : ℕ) → j < length s → length s ≤ j + endLength s → getD s j 0 ≡ last s
   end-all zero h l = absurd (omega (arith, end-le))
   end-all (suc j) h l =
       let e = end-front (omega arith) in
@@ -52,7 +47,7 @@ module _ (s : List ℕ) where
       (behind j ∙ same s (j + 1) (suc j) (omega arith) ∙ f)
 
   -- n octets that do, and one before them, if not at index 0, that does not, are they
-  pub end-is : (n : ℕ) → n < length s → 2 ≤ length s → ((j : ℕ) → j < length s → length s ≤ j + n → getD s j 0 ≡ last s)
+  end-is : (n : ℕ) → n < length s → 2 ≤ length s → ((j : ℕ) → j < length s → length s ≤ j + n → getD s j 0 ≡ last s)
       → ((j : ℕ) → 0 < j → j + 1 + n ≡ length s → getD s j 0 ≡ last s → ⊥) → n ≡ endLength s
   end-is n h two all stop =
       let size = length-drop 1 s in
@@ -62,11 +57,7 @@ module _ (s : List ℕ) where
       (λ j e. rw (behind j) (is-ne (last s) (getD s (j + 1) 0) (stop (j + 1) (omega arith) (omega arith)))))
 
   -- they are padding if they are at least 4
-  pub padding-few : endLength s < 4 → 0 ≡ paddingLength s
-  unfolding paddingLength
-  padding-few h = rw (lt-leb 4 (endLength s) h)
-
-  pub padding-some : 4 ≤ endLength s → endLength s ≡ paddingLength s
+  padding-some : 4 ≤ endLength s → endLength s ≡ paddingLength s
   unfolding paddingLength
   padding-some h = rw (le-leb 4 (endLength s) h)
 

@@ -6,16 +6,14 @@ use mathlib.Core.List.{List, _++_, flatMap}
 use Prim.Native.Nat.{ℕ, suc, _+_, _*_, _/_, _≤_, _<_}
 use native.Mathlib.Omega.{arith}
 use lib.Dec.{leb}
-use lib.ListN.{length, set, take, drop, length-append}
+use lib.ListN.{length, set, take, length-append}
 use lib.Seq.{length-take-le}
 use Rattle.octets.proofs.Puts.{Putting, putting-start, putting-next, putting-end, put-more, put-size, put-nothing}
-use Rattle.runs.specs.Front.{front}
 use Rattle.patterns.specs.declared.Entry.{Entry}
 use Rattle.patterns.specs.Stretches.{before as reaches}
 use Rattle.patterns.specs.Entries.{entry, when, mark, padding, printable, texts, entries, numbersOf, entryNumbers}
-use Rattle.patterns.specs.Steps.{Seen, PutEntries}
-use Rattle.patterns.proofs.Stretches.{ended}
-use Rattle.patterns.proofs.Texts.{flat-append, length-when, padding-few, texts-few, textsOn, texts-all, texts-end, texts-turn}
+use Rattle.patterns.specs.Steps.{Passed, Seen, PutEntries}
+use Rattle.patterns.proofs.Texts.{flat-append, length-when, padding-few, texts-few, textsOn, texts-all, texts-end, passed-turn, passed-free}
 
 -- entries behind entries
 pub entries-more : {es fs : List Entry} {a b c : List ℕ} {at m n : ℕ} → PutEntries es a at b m → PutEntries fs b m c n → PutEntries (es ++ fs) a at c n
@@ -62,16 +60,16 @@ module _ (s before : List ℕ) (at : ℕ) where
   }
 
   module _ {start here : ℕ} {after : List ℕ} (w : Walked s before at start after here) where
-    -- one more stretch
-    pub walked-turn : {n there : ℕ} {later : List ℕ} → start < length s → n ≡ front printable (drop start s)
+    -- one turn more
+    pub walked-turn : {n there : ℕ} {later : List ℕ} → start < length s → Passed s start n
         → PutEntries (when (leb 4 n) (entry 2 start n 0)) after here later there → Walked s before at (start + (n + 1)) later there
     unfolding entryNumbers
-    walked-turn {n} h e next =
+    walked-turn {n} h passed next =
         let one = when (leb 4 n) (entry 2 start n 0) in
         let more = textsOn s (start + (n + 1)) in
-        let turn : textsOn s start ≡ one ++ more = texts-turn s start n h e (w .free h) in
+        let turn : textsOn s start ≡ one ++ more = passed-turn passed h (w .free h) in
         record {
-          free = ended printable s start n e;
+          free = passed-free passed;
           count = omega (arith, w .count, ap length turn, length-append one more, next .count);
           put = λ room.
               let so = rw (turn, flat-append numbersOf one more) at (w .put (omega (arith, next .count))) in

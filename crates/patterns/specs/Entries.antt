@@ -4,9 +4,10 @@ use Prim.Native.Nat.{ℕ, _-_}
 use mathlib.Core.Bool.{Bool, true, false, cond, _&&_}
 use mathlib.Core.List.{List, [], _∷_, _++_, flatMap}
 use lib.Dec.{leb, eqb}
-use lib.ListN.{length, getD, drop}
+use lib.ListN.{length}
 use Rattle.octets.specs.Range.{within}
-use Rattle.runs.specs.Front.{is, front, equalAtEnd}
+use Rattle.runs.specs.Front.{is, front}
+use Rattle.padding.specs.Padding.{last, paddingLength}
 use Rattle.patterns.specs.Stretches.{Stretch, stretches}
 use Rattle.patterns.specs.declared.Entry.{Entry}
 
@@ -33,18 +34,6 @@ sequencePattern = 4
 -- an entry that is there under a condition
 unfoldable pub when : Bool → Entry → List Entry
 when b e = cond b (e ∷ []) []
-
--- the last octet
-abbrev pub last : List ℕ → ℕ
-last s = getD s (length s - 1) 0
-
--- how many octets at the end, one behind another and without index 0, equal the last one
-unfoldable pub endLength : List ℕ → ℕ
-endLength s = equalAtEnd (drop 1 s)
-
--- how many of them are padding: all, if they are at least 4
-unfoldable pub paddingLength : List ℕ → ℕ
-paddingLength s = cond (leb 4 (endLength s)) (endLength s) 0
 
 -- the padding, if there is one
 unfoldable pub padding : List ℕ → List Entry

@@ -1,13 +1,12 @@
 // The patterns of a frame: `detect_patterns` of validation.rs.
 use octets::CountResult;
 ghost use mathlib.Core.Path.{_≡_};
-ghost use Prim.Native.Nat.{_≤_};
-ghost use lib.ListN.{length, take, drop};
-ghost use Rattle.runs.specs.Front.{front};
+ghost use Prim.Native.Nat.{_≤_, _<_};
+ghost use lib.ListN.{length, take};
 ghost use Rattle.patterns.specs.Entries.{paddingPattern, textPattern, when, mark};
-ghost use Rattle.patterns.specs.Entries.{endLength, padding, printable, texts};
+ghost use Rattle.patterns.specs.Entries.{padding, texts};
 ghost use Rattle.patterns.specs.Entries.{hasZeros, startsWith, hasSequence, entries};
-ghost use Rattle.patterns.specs.Steps.{IsPadding, Seen, PutEntries};
+ghost use Rattle.patterns.specs.Steps.{IsPadding, Passed, Seen, PutEntries};
 ghost use Rattle.patterns.specs.Detect.{patternsAnswer, patternsOutput};
 ghost use Rattle.patterns.specs.Laws.{Shows, Padding, Text};
 
@@ -28,34 +27,12 @@ struct Entry {
     value: u32,
 }
 
-// How many octets at the end, one behind another and without index 0, equal the last one.
-fn end_length(frame: &[u8]) -> usize
-    ensures { λ r. ⌜ r ≡ endLength (now (frame .entry)) ⌝ }
-{
-    if frame.len() < 2 {
-        return 0;
-    }
-    let end = frame.len() - 1;
-    let x = frame[end];
-    let mut i = end;
-    while 0 < i {
-        if frame[i] != x {
-            return end - i;
-        }
-        i -= 1;
-    }
-    end - i
-}
-
-// How many of them are padding.
+// How many octets at the end are padding.
 fn padding_length(frame: &[u8]) -> usize
     ensures { λ r. ⌜ IsPadding (now (frame .entry)) r ⌝ }
 {
-    let n = end_length(frame);
-    if n < 4 {
-        return 0;
-    }
-    n
+    let state = padding::state_after(frame);
+    state.padding_length()
 }
 
 // Whether the octets before the padding, whose length is `n`, are at least 8, all of them 00.
@@ -95,11 +72,24 @@ fn has_sequence(frame: &[u8]) -> bool
     starts_with(frame, &sequence)
 }
 
-// How many octets 20 to 7E stand from place `i` on, one behind another.
+// How far the search for texts goes from place `i` on: over all octets of a text, or over fewer than 4, to an octet that is
+// in no text or to the end. Of the first four octets the last is looked at first.
 fn text_length(frame: &[u8], i: usize) -> usize
-    ensures { λ r. ⌜ r ≡ front printable (drop i (now (frame .entry))) ⌝ }
+    requires { ⌜ i < length (now frame) ⌝ }
+    ensures { λ r. ⌜ Passed (now (frame .entry)) i r ⌝ }
 {
-    runs::within_from(frame, i, 0x20, 0x7E)
+    let left = frame.len() - i;
+    if left < 4 {
+        return left;
+    }
+    let mut n = 4;
+    while 0 < n {
+        n -= 1;
+        if !octets::within(0x20, 0x7E, frame[i + n]) {
+            return n;
+        }
+    }
+    4 + runs::within_from(frame, i + 4, 0x20, 0x7E)
 }
 
 // How many octets in front have all texts: those before the padding, whose length is `n`, if its octets are none of 20 to
@@ -154,7 +144,7 @@ fn put_padding(frame: &[u8], n: usize, out: &mut [u32]) -> usize
     put_if(out, 0, 4 <= n, e)
 }
 
-// Puts the texts' entries behind `at` entries. Each turn goes on behind the octet that ends a stretch.
+// Puts the texts' entries behind `at` entries. Each turn goes on behind an octet that is in no text.
 fn put_texts(frame: &[u8], out: &mut [u32], at: usize) -> usize
     requires { ⌜ (length (now frame) ≤ 65535) × (at ≤ 1) ⌝ }
     ensures { λ r. ⌜ PutEntries (texts (now (frame .entry))) (now (out .entry)) at (now (out .exit)) r ⌝ }

@@ -3,6 +3,7 @@ use analysis::FrameAnalysis;
 use findings::Finding;
 use findings::ValidationResult;
 use octets::AcceptResult;
+use padding::PaddingState;
 use replay_cases::print;
 use statistics::FrameStatistics;
 use statistics::StatisticsAnswer;
@@ -103,6 +104,22 @@ pub(crate) fn print_list(list: &[u32], size: usize) {
         return print::list(list, MOST, 8);
     }
     print::list(list, size, 8);
+}
+
+// Prints a state's run, and how many octets are padding then.
+fn print_state(state: PaddingState) {
+    print::number(state.run, 6);
+    print::number(state.padding_length(), 6);
+}
+
+// Prints the state after each octet, a step for each.
+pub(crate) fn print_steps(frame: &[u8]) {
+    let mut state = PaddingState::new();
+    for i in 0..frame.len() {
+        let more = state.step(frame[i]);
+        state = more;
+        print_state(more);
+    }
 }
 
 // Prints what the analysis answered.

@@ -46,6 +46,7 @@ fn answer_to(kind: u8, rule: CheckRule, frame: &[u8], size: usize) {
         b'I' => answers::print_result(validation_ip::validate_bacnet_ip_frame(frame)),
         b'M' => answers::print_result(validation_mstp::validate_mstp_frame(rule, frame)),
         b'S' => answers::print_statistics_answer(statistics::calculate_frame_statistics(frame)),
+        b'W' => answers::print_steps(frame),
         _ => with_list(kind, rule, frame, size),
     }
 }

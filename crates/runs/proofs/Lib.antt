@@ -2,4 +2,5 @@ pub mod Back
 pub mod Count
 pub mod Front
 pub mod Longest
+pub mod More
 pub mod Walk

@@ -2,27 +2,27 @@
 -- Assumes nothing.
 use mathlib.Core.Path.{_≡_, refl, sym, ap, _∙_}
 use Prim.Native.Nat.{ℕ, suc, _+_, _-_, _≤_, _<_}
-use native.Mathlib.Omega.{arith, by-contra}
+use native.Mathlib.Omega.{arith}
 use native.Mathlib.Numerals.{add-one}
-use mathlib.Core.List.{List, [], _∷_, reverse, reverse-append}
-use lib.ListN.{length, getD, take, length-reverse}
+use mathlib.Core.List.{List, [], _∷_, _++_, reverse}
+use lib.ListN.{length, getD, take}
 use lib.Seq.{length-take-le, take-suc}
-use Rattle.runs.specs.Front.{is, front}
+use Rattle.runs.specs.Front.{front, equalAtEnd}
 use Rattle.runs.specs.Longest.{run, lastRun, longer, longestWithin, longest, Longest, OnlyLongest}
 use Rattle.runs.specs.Example.{Example}
 use Rattle.runs.specs.declared.Run.{Run}
-use Rattle.runs.proofs.Front.{front-le, front-all, front-yes, is-eq, is-true}
 use Rattle.runs.proofs.Back.{same}
+use Rattle.runs.proofs.More.{more-last, more-again, more-anew}
 use Rattle.runs.proofs.Longest.{longer-first, longer-second, longest-law, only-longest, example}
 
 -- the first i octets end with octets x from `start` on
 pub record Ends (s : List ℕ) (i start x : ℕ) : Type 0 where
-  pub count : start + front (is x) (reverse (take i s)) ≡ i
-  pub some : 0 < i → start < i
+  pub count : start + equalAtEnd (take i s) ≡ i
+  pub value : getD (reverse (take i s)) 0 0 ≡ x
 
 pub ends-start : (s : List ℕ) → Ends s 0 0 0
 unfolding front
-ends-start s = record { count = refl; some = λ l. omega arith }
+ends-start s = record { count = refl; value = refl }
 
 -- place and length of the longest run of the first i octets
 abbrev pub At : List ℕ → ℕ → ℕ → ℕ → Type 0
@@ -34,40 +34,30 @@ at-start s = (refl, refl)
 
 -- one octet more
 module _ (s : List ℕ) (i : ℕ) (h : i < length s) where
-  grown : reverse (take (suc i) s) ≡ getD s i 0 ∷ reverse (take i s)
-  grown = ap reverse (take-suc s i 0 h) ∙ reverse-append (take i s) (getD s i 0 ∷ [])
+  grown : take (i + 1) s ≡ take i s ++ (getD s i 0 ∷ [])
+  grown = rw (add-one i) (take-suc s i 0 h)
 
   module _ {start x : ℕ} (e : Ends s i start x) where
     pub ends-on : getD s i 0 ≡ x → Ends s (i + 1) start x
     ends-on f = record {
-      count = rw (add-one i, grown) (omega (arith, front-yes (is x) (getD s i 0) (reverse (take i s)) (is-eq x (getD s i 0) f), e .count));
-      some = λ l. omega (arith, e .count);
+      count = rw grown (omega (arith, more-again (take i s) (getD s i 0) (e .value ∙ sym f), e .count));
+      value = rw grown (more-last (take i s) (getD s i 0) ∙ f);
     }
 
     pub ends-new : (getD s i 0 ≡ x → ⊥) → Ends s (i + 1) i (getD s i 0)
-    ends-new d =
-        let y = getD s i 0 in
-        let r = reverse (take i s) in
-        let none = by-contra (front (is y) r) 0
-        (λ l.
-        let before : 0 < i = omega (arith, front-le (is y) r, length-reverse (take i s), length-take-le i s (omega arith)) in
-        d (sym (is-true y (getD r 0 0) (front-all (is y) r 0 l)) ∙ is-true x (getD r 0 0) (front-all (is x) r 0 (omega (arith, e .count, e .some before))))) in
-        record {
-          count = rw (add-one i, grown) (omega (arith, front-yes (is y) y r (is-eq y y refl), none));
-          some = λ l. omega arith;
-        }
+    ends-new d = record {
+      count = rw grown (omega (arith, more-anew (take i s) (getD s i 0) (λ l f. d (sym f ∙ e .value))));
+      value = rw grown (more-last (take i s) (getD s i 0));
+    }
 
   -- so their longest run is the one before, or the run that they end with
   walk-turn : {start x : ℕ} → Ends s (i + 1) start x → longer (longestWithin i s) (run start x (i + 1 - start)) ≡ longestWithin (i + 1) s
   unfolding longestWithin lastRun
   walk-turn {start} {x} ends =
       let e : Ends s (suc i) start x = rw (add-one i) at ends in
-      let r = reverse (take (suc i) s) in
-      let some = e .some (omega arith) in
-      let y : getD r 0 0 ≡ x = is-true x (getD r 0 0) (front-all (is x) r 0 (omega (arith, e .count))) in
-      let n : front (is x) r ≡ suc i - start = omega (arith, e .count) in
-      let p : start ≡ suc i - (suc i - start) = omega arith in
-      rw (add-one i, y, n, length-take-le (suc i) s h) (ap (λ (k : ℕ). longer (longestWithin i s) (run k x (suc i - start))) p)
+      let n : equalAtEnd (take (suc i) s) ≡ suc i - start = omega (arith, e .count) in
+      let p : start ≡ suc i - (suc i - start) = omega (arith, e .count) in
+      rw (add-one i, n, e .value, length-take-le (suc i) s h) (ap (λ (k : ℕ). longer (longestWithin i s) (run k x (suc i - start))) p)
 
   -- place and length of the new one, or of the one before
   module _ {place n start x : ℕ} (b : At s i place n) (ends : Ends s (i + 1) start x) where

@@ -16,7 +16,8 @@ use Rattle.findings.specs.Result.{found, errorsOf, result}
 use Rattle.validation_ip.specs.Tests.{errorTests, ipErrors, ipResult}
 use Rattle.runs.specs.Front.{is, front}
 use Rattle.patterns.specs.Stretches.{before, starts, stretchAt, stretchesFrom, stretches}
-use Rattle.patterns.specs.Entries.{when, paddingLength, padding, text, texts, hasZeros, startsWith, entries, endLength, entryNumbers}
+use Rattle.padding.specs.Padding.{endLength, paddingLength}
+use Rattle.patterns.specs.Entries.{when, padding, text, texts, hasZeros, startsWith, entries, entryNumbers}
 use Rattle.patterns.specs.Detect.{patternsQuestions, patternsQuestion, patternsAnswer, patternsOutput}
 use Rattle.trials.specs.Trials.{Trials}
 

@@ -1,11 +1,11 @@
--- `patterns::put_texts` meets its contract: each turn puts the text at `start`, if there is one, and goes on behind the octet that ends it.
+-- `patterns::put_texts` meets its contract: each turn puts the text at `start`, if one is there, and goes on behind an octet that is in no text.
 -- Assumes nothing.
-use Prim.Native.Nat.{_+_, _-_, _≤_}
+use Prim.Native.Nat.{_-_}
 use mathlib.Core.Path.{_≡_, refl}
 use native.Mathlib.Omega.{arith}
 use lib.ListN.{length}
 use borrow.Author.Needs.{needs}
-use Rattle.patterns.proofs.Texts.{text-ends, texts-few}
+use Rattle.patterns.proofs.Texts.{texts-few}
 use Rattle.patterns.proofs.Stores.{Walked, walked-start, walked-turn, walked-end}
 use Rattle.patterns.proofs.put_texts.Statement.{statement}
 use Rattle.patterns.proofs.put_texts.Tie as tie
@@ -22,15 +22,11 @@ loop-holds c = (refl, walked-start _ _ _)
 text-length-requires : tie.Need-text-length-requires Inv-loop μ-loop
 text-length-requires c κs = search needs
 
-ends : (c : tie.After-text-length Inv-loop μ-loop)
-    → c .before .before .loop .start + c .text-length .result ≤ length (c .before .before .before .before .before .args .frame .now)
-ends c = text-ends _ _ _ (c .before .loop-test .taken) (c .text-length .ensures)
-
 cast-t10 : tie.Need-cast-t10 Inv-loop μ-loop
 cast-t10 c = omega arith
 
 cast-t11 : tie.Need-cast-t11 Inv-loop μ-loop
-cast-t11 c = omega (arith, ends c)
+cast-t11 c = omega (arith, c .text-length .ensures .inside)
 
 put-if-requires : tie.Need-put-if-requires Inv-loop μ-loop
 put-if-requires c κs =
@@ -38,10 +34,10 @@ put-if-requires c κs =
     omega (arith, a .loop .inv .1 .count, texts-few (a .before .before .before .args .frame .now))
 
 add-start : tie.Need-add-start Inv-loop μ-loop
-add-start c = omega (arith, ends (c .before .before .before .before))
+add-start c = omega (arith, c .before .before .before .before .text-length .ensures .inside)
 
 add-start-2 : tie.Need-add-start-2 Inv-loop μ-loop
-add-start-2 c = omega (arith, ends (c .before .before .before .before))
+add-start-2 c = omega (arith, c .before .before .before .before .text-length .ensures .inside)
 
 loop-less : tie.Need-loop-less Inv-loop μ-loop
 loop-less c = omega arith
