@@ -1,13 +1,15 @@
-// The rows of statistics, patterns and analysis. The Rust's statistics have an entropy besides; it
-// makes lists of the patterns, with a text's octets.
+// The rows of statistics, patterns and analysis, and of the padding search octet by octet, which the
+// Rust doesn't have. The Rust's statistics have an entropy besides; it makes lists of the patterns, with
+// a text's octets.
 
 use bacnet::datalink::validation::{
     analyze_frame, opened_patterns, opened_statistics, FrameAnalysis, FrameStatistics, Pattern,
 };
 use ffi::{
     lefkanu_analyze_frame, lefkanu_calculate_frame_statistics, lefkanu_detect_patterns,
-    COUNT_NUMBERS, RESULT_NUMBERS,
+    lefkanu_padding_length, lefkanu_padding_step, COUNT_NUMBERS, PADDING_NUMBERS, RESULT_NUMBERS,
 };
+use shared::model::padding::State;
 use shared::rust::analysis as told;
 use shared::rust::findings;
 
@@ -25,6 +27,9 @@ pub fn rows() -> Vec<Row> {
     rows.extend(SIZES.map(|size| patterns("patterns, binary, full list", octets(size), found)));
     rows.extend(SIZES.map(|size| patterns("patterns, padding, full list", padding(size), found)));
     rows.extend(SIZES.map(|size| analysis(mstp(size))));
+    rows.extend(SIZES.map(|size| steps("padding, step by step, binary", octets(size))));
+    rows.extend(SIZES.map(|size| steps("padding, step by step, padding", padding(size))));
+    rows.push(length(padding(8)));
     rows
 }
 
@@ -111,4 +116,27 @@ fn analysis(frame: Octets) -> Row {
     compare_statistics(frame, now(values), now(counts), &analysis.statistics);
     compare_patterns(frame, out, now(count), &analysis.patterns);
     Row::both("analysis", frame.len(), ours, move || theirs(frame))
+}
+
+// The padding search in a whole frame, from three zeros. Gives what the last step answers.
+fn steps(name: &'static str, frame: Octets) -> Row {
+    let ours = pointer!(lefkanu_padding_step as unsafe extern "C" fn(_, _) -> _);
+    let state = lent([0; PADDING_NUMBERS]);
+    let ours = move || unsafe {
+        *state = [0; PADDING_NUMBERS];
+        frame.iter().fold(0, |_, octet| ours(state, *octet))
+    };
+    let expected = State::of(frame).numbers();
+    assert_eq!((ours(), now(state)), (0, expected), "{name}");
+    Row::alone(name, frame.len(), ours)
+}
+
+// The padding's length in the state after a frame.
+fn length(frame: Octets) -> Row {
+    let ours = pointer!(lefkanu_padding_length as unsafe extern "C" fn(_, _) -> _);
+    let state = State::of(frame);
+    let (numbers, length) = (lent(state.numbers()), lent(0));
+    let ours = move || unsafe { ours(numbers, length) };
+    assert_eq!((ours(), now(length)), (0, state.length()), "length");
+    Row::alone("padding, length", frame.len(), ours)
 }

@@ -4,7 +4,9 @@ use ffi::{lefkanu_layout_version, LAYOUT_VERSION, NONE, NO_CASE};
 use shared::random::Random;
 
 use crate::tally::Tally;
-use crate::{analysis, bip, checks, errors, ethernet, finder, log, mstp, readings, validation};
+use crate::{
+    analysis, bip, checks, errors, ethernet, finder, log, mstp, padding, readings, validation,
+};
 
 pub struct Function {
     // The name behind `lefkanu_`.
@@ -13,7 +15,10 @@ pub struct Function {
     // a count of errors, l a link, m what a message carries, p a pattern; r1 a longest run in front,
     // r2 one that starts later, r3 another as long after it; h4608 headers of every type with every
     // pair of a master, a slave and all stations, under both rules; d1 frames that demand 3 speaks of, d2 a
-    // report that reaches from the damage over a head.
+    // report that reaches from the damage over a head; c a run of a state by its count of octets, 5 for
+    // all above 4; s1 a step with a first octet, s2 with one that starts the run anew, s3 with the same
+    // behind a run of 0, so with a second equal to the first, s4 with the same behind a longer run, s5
+    // behind the highest count.
     pub answers: &'static [u8],
     pub sights: &'static str,
     pub compare: fn(&mut Tally, &mut Random),
@@ -29,6 +34,8 @@ const LONGEST_RUNS: &str = "r1 r2 r3";
 const ANALYSIS: &str = "l0 l1 l2 l3 p1 p2 p3 p4 r1 r2 r3 h4608";
 const MESSAGES: &str = "m1 m2 m3";
 const DEMAND_3: &str = "d1 d2";
+const STEPS: &str = "c0 c1 c2 c3 c4 c5 s1 s2 s3 s4 s5";
+const STATES: &str = "c0 c1 c2 c3 c4 c5";
 
 // Each by its name, answers, what its results have, and comparison.
 macro_rules! functions {
@@ -68,6 +75,8 @@ pub const ALL: &[Function] = functions! {
     "read_frames" [0, 31, 32, NO_CASE], DEMAND_3, readings::read_frames;
     "read_record" [0, 41, 42, 43, 44, 47, NONE], "", log::read_record;
     "append" [0, 42, 43, 46, 47], "", log::append;
+    "padding_step" [0, NO_CASE], STEPS, padding::step;
+    "padding_length" [0, NO_CASE], STATES, padding::length;
 };
 
 // The function that has no input: it is asked once.

@@ -44,13 +44,18 @@ pub struct Lent<T> {
 impl<T: Word> Lent<T> {
     // Memory of so many numbers.
     pub fn new(count: usize, random: &mut Random) -> Lent<T> {
-        let mut any = || {
-            let [high, low] = [0; 2].map(|_| random.below(1 << 32) as u64);
-            T::of(high << 32 | low)
-        };
-        let before: Vec<T> = (0..count + 2 * GUARDS).map(|_| any()).collect();
+        let any = |_| T::of(random.wide());
+        let before: Vec<T> = (0..count + 2 * GUARDS).map(any).collect();
         let after = before.clone();
         Lent { before, after }
+    }
+
+    // Memory that holds some numbers before the call.
+    pub fn holding(numbers: &[T], random: &mut Random) -> Lent<T> {
+        let mut lent = Lent::new(numbers.len(), random);
+        lent.before[GUARDS..][..numbers.len()].copy_from_slice(numbers);
+        lent.after.copy_from_slice(&lent.before);
+        lent
     }
 
     // What a call gets: a pointer to the numbers between the guards, of which there are len().

@@ -19,6 +19,7 @@ mod log;
 mod mstp;
 mod other_rule;
 mod outcome;
+mod padding;
 mod readings;
 mod spoil;
 mod tally;

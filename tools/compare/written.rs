@@ -4,6 +4,7 @@ use shared::model::analysis::Analysis;
 use shared::model::finder::Report;
 use shared::model::findings::Findings;
 use shared::model::log::Record;
+use shared::model::padding::State;
 use shared::model::patterns::Entry;
 use shared::model::statistics::Statistics;
 use shared::model::{bvlc, ethernet, mstp};
@@ -54,6 +55,7 @@ in_memory! {
     };
     Findings: findings => vec![numbers(&findings.numbers())];
     Statistics: counted => vec![numbers(&counted.counts), numbers(&counted.numbers())];
+    State: state => vec![numbers(&state.numbers())];
     // Patterns in a list.
     Vec<Entry>: entries => counted(entries.as_flattened(), entries.len());
     Analysis: whole => {

@@ -1,5 +1,5 @@
-// The answers of the second list: findings, statistics and patterns as text, after the Rust's were
-// compared with them.
+// The answers of the second list: findings, statistics, patterns and the padding search as text, after
+// the Rust's were compared with them.
 
 use std::fmt::Write;
 
@@ -8,6 +8,7 @@ use bacnet::datalink::validation::{
 };
 use shared::model::analysis::analyze;
 use shared::model::findings::{Findings, Link};
+use shared::model::padding::State;
 use shared::model::patterns::{self, detect, found};
 use shared::model::questions::MOST;
 use shared::model::statistics::Statistics;
@@ -68,6 +69,18 @@ pub fn analysis(rule: Rule, octets: &[u8], size: usize) -> String {
     };
     let texts = [findings_text(&findings), statistics_text(&statistics)].concat();
     format!("{} {texts}{}", outcome(&entries), lent(&entries, size))
+}
+
+// The answer to the padding search, octet by octet. Panics where the Rust finds another padding.
+pub fn padding(octets: &[u8]) -> String {
+    let mut text = String::new();
+    for index in 0..octets.len() {
+        let front = &octets[..=index];
+        compare_patterns(front, &opened_patterns(front));
+        let state = State::of(front);
+        write!(text, " {:06x} {:06x}", state.run, state.length()).unwrap();
+    }
+    text
 }
 
 // Panics unless the Rust found the same. Of an MS/TP frame under Annex G, whose checks are others, the

@@ -1,5 +1,5 @@
-// The second list: findings, statistics, patterns and analysis. A case and its answer are a line
-// each:
+// The second list: findings, statistics, patterns, analysis and the padding search. A case and its
+// answer are a line each:
 //
 //     MR SIZE ZEROS COUNT OCTETS   the MS/TP validator
 //     I- SIZE ZEROS COUNT OCTETS   the IP validator
@@ -17,6 +17,8 @@
 //                                    the count of entries; all three
 //     E nn FINDINGS STATISTICS LIST
 //                                    refused; an invalid result of zeros, zeros; the lent list
+//     W- SIZE ZEROS COUNT OCTETS   the padding search, octet by octet
+//     STEPS                          after each octet; of no octets an empty line
 //
 // In a case nothing stands between the words. R is the rule, `h` house or `g` Annex G. SIZE, ZEROS
 // and COUNT have four digits: how many numbers the lent list has, how many zeros stand behind the
@@ -31,6 +33,8 @@
 //                  value, count
 //     LIST         the lent list, which was a5a5a5a5, and 4 numbers behind it: all of these, or the
 //                  first 60, eight digits each
+//     STEPS        for each octet RRRRRR PPPPPP, a space before each: the run after it, and the
+//                  padding's length, 0 where there is none
 
 use bacnet::datalink::validation::{
     validate_bacnet_ip_frame, validate_ethernet_frame, validate_frame, validate_mstp_frame,
@@ -96,6 +100,12 @@ pub fn patterns(list: &mut List, octets: &[u8], size: usize) {
 pub fn analysis(list: &mut List, rule: Rule, octets: &[u8], size: usize) {
     let answer = analysis_answers::analysis(rule, octets, size);
     add(list, ['A', rule.letter()], octets, size, &answer);
+}
+
+// Adds the padding search in some octets, octet by octet.
+pub fn padding(list: &mut List, octets: &[u8]) {
+    let answer = analysis_answers::padding(octets);
+    add(list, ['W', '-'], octets, 0, &answer);
 }
 
 // Adds a case with its answer.

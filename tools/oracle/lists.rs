@@ -9,7 +9,7 @@ use crate::list::{frames, List};
 use crate::{
     analysis_cases, bip_readings, bip_writings, ethernet_readings, ethernet_validations,
     ethernet_writings, frame_validations, ip_validations, mstp_checks, mstp_readings,
-    mstp_validations, mstp_writings, patterns_cases, statistics_cases,
+    mstp_validations, mstp_writings, padding_cases, patterns_cases, statistics_cases,
 };
 use crate::{analysis_list, bip_list, ethernet_list, mstp_list};
 
@@ -55,10 +55,10 @@ pub fn second(samples: &Path) -> List {
     try_examples();
     let mut list = List::default();
     let mut random = Random::new();
-    for name in [MSTP, BVLC, ETHERNET] {
-        for octets in frames(&samples.join(name)) {
-            sample(&mut list, &octets);
-        }
+    let files = [MSTP, BVLC, ETHERNET].map(|name| frames(&samples.join(name)));
+    let samples = files.concat();
+    for octets in &samples {
+        sample(&mut list, octets);
     }
     for rule in RULES {
         mstp_validations::cases(&mut list, rule, &mut random);
@@ -69,10 +69,11 @@ pub fn second(samples: &Path) -> List {
     statistics_cases::cases(&mut list, &mut random);
     patterns_cases::cases(&mut list, &mut random);
     analysis_cases::cases(&mut list, &mut random);
+    padding_cases::cases(&mut list, &samples, &mut random);
     list
 }
 
-// Adds all that the second list asks of a sample.
+// Adds what the second list asks of a sample, but for the padding search.
 fn sample(list: &mut List, octets: &[u8]) {
     for rule in RULES {
         analysis_list::mstp(list, rule, octets);

@@ -23,6 +23,7 @@ mod mstp_list;
 mod mstp_readings;
 mod mstp_validations;
 mod mstp_writings;
+mod padding_cases;
 mod patterns_cases;
 mod statistics_cases;
 

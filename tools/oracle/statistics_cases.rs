@@ -30,7 +30,7 @@ pub fn cases(list: &mut List, random: &mut Random) {
 }
 
 // So many of an octet, one run behind another.
-fn runs(runs: &[(u8, usize)]) -> Vec<u8> {
+pub fn runs(runs: &[(u8, usize)]) -> Vec<u8> {
     let octets = runs.iter().map(|(octet, count)| vec![*octet; *count]);
     octets.collect::<Vec<_>>().concat()
 }

@@ -23,6 +23,12 @@ impl Random {
         (self.0 >> 32) as usize % n
     }
 
+    // A number of 64 bits.
+    pub fn wide(&mut self) -> u64 {
+        let [high, low] = [0; 2].map(|_| self.below(1 << 32) as u64);
+        high << 32 | low
+    }
+
     // An octet.
     pub fn octet(&mut self) -> u8 {
         self.below(256) as u8

@@ -7,6 +7,7 @@ pub mod ethernet;
 pub mod logs;
 pub mod mstp;
 pub mod runs;
+pub mod states;
 
 use shared::octets::{then, with, with_each};
 use shared::random::Random;

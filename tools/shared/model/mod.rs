@@ -9,6 +9,7 @@ pub mod finder;
 pub mod findings;
 pub mod log;
 pub mod mstp;
+pub mod padding;
 pub mod patterns;
 pub mod questions;
 pub mod statistics;

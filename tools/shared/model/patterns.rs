@@ -1,8 +1,9 @@
 // The patterns in octets: questions 31 and 32.
 
+use crate::model::padding::State;
 use crate::model::questions::at_most;
 
-// The least padding or text, and the least zeros before a padding.
+// The least text, and the least zeros before a padding.
 const LEAST: usize = 4;
 const LEAST_ZEROS: usize = 8;
 
@@ -34,14 +35,12 @@ pub fn found(octets: &[u8]) -> Vec<Entry> {
     entries
 }
 
-// The padding: how often the last octet stands at the end, index 0 not counted.
+// The padding: the last octet's run, if it is long enough.
 fn padding(octets: &[u8]) -> Option<Entry> {
-    let (_, counted) = octets.split_first()?;
-    let last = counted.last()?;
-    let same = counted.iter().rev().take_while(|octet| *octet == last);
-    let length = same.count();
+    let state = State::of(octets);
+    let length = state.length();
     let start = octets.len() - length;
-    (length >= LEAST).then_some([1, start, length, usize::from(*last)])
+    (length > 0).then_some([1, start, length, usize::from(state.last)])
 }
 
 // The texts: what octets other than 20 to 7E part from each other, if it is long enough.

@@ -1,6 +1,6 @@
 // What the Rust counts, and the patterns that it finds.
 
-use bacnet::datalink::validation::{FrameStatistics, Pattern};
+use bacnet::datalink::validation::{opened_patterns, FrameStatistics, Pattern};
 
 use crate::model::patterns::Entry;
 use crate::model::statistics::{first_place, Statistics};
@@ -21,6 +21,12 @@ pub fn statistics(octets: &[u8], counted: &FrameStatistics) -> Statistics {
 // The Rust's patterns in some octets.
 pub fn patterns(octets: &[u8], found: &[Pattern]) -> Vec<Entry> {
     found.iter().map(|pattern| entry(octets, pattern)).collect()
+}
+
+// The padding among the Rust's patterns in some octets.
+pub fn padding(octets: &[u8]) -> Option<Entry> {
+    let found = patterns(octets, &opened_patterns(octets));
+    found.into_iter().find(|[kind, ..]| *kind == 1)
 }
 
 // A pattern of the Rust. A text must be what the octets have there.
