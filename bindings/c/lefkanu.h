@@ -6,7 +6,7 @@
 
    Answers: 0 where there is a result, and then it stands in the lent memory. Else the number of the first of document
    01's questions that fails, LEFKANU_NONE, or, before any question is asked, LEFKANU_NO_CASE where a number names no rule,
-   type or function; then nothing was written. Only lefkanu_layout_version answers something else.
+   type, function or state; then nothing was written. Only lefkanu_layout_version answers something else.
 
    Rules: LEFKANU_ANNEX_G or LEFKANU_HOUSE, whose octets are those of bacnet-rs. The rule decides the check octets, and
    one warning of the validators.
@@ -79,7 +79,7 @@ uint32_t lefkanu_layout_version(void);
 
    Answers that are no question:
    FE  LEFKANU_NONE: the finder's "none", the log's "start reached"
-   FF  LEFKANU_NO_CASE: a number names no rule, frame type or function */
+   FF  LEFKANU_NO_CASE: a number names no rule, frame type, function or state */
 #define LEFKANU_NONE 0xFE
 #define LEFKANU_NO_CASE 0xFF
 
@@ -156,6 +156,20 @@ uint8_t lefkanu_calculate_frame_statistics(const uint8_t *frame, size_t frame_oc
    sequence), start, length, octet value; count: how many patterns. Questions 31 and 32. */
 uint8_t lefkanu_detect_patterns(const uint8_t *frame, size_t frame_octets, uint32_t *out, size_t out_numbers,
                                 size_t *count);
+
+/* Padding in order of arrival: after each octet, the padding at the end of the octets so far. It is the one that
+   lefkanu_detect_patterns finds in them; more than 65,535 octets may come. state: 1 if an octet came yet else 0, the
+   last octet, and its run: how many octets at the end, one behind another and without index 0, equal the last one,
+   however few. Three zeros are the state before the first octet. Numbers are no state where the first is above 1 or the
+   second above 255. No question. */
+#define LEFKANU_PADDING_NUMBERS 3
+
+/* Puts the state with one octet more in its place. A run of SIZE_MAX, which no octets in memory have, stays. */
+uint8_t lefkanu_padding_step(size_t state[3], uint8_t octet);
+
+/* length: how many octets are padding, the run if it is at least 4, else 0. Padding starts so many octets before the end
+   of the octets so far, and its value is the last octet. */
+uint8_t lefkanu_padding_length(const size_t state[3], size_t *length);
 
 /* lefkanu_validate_frame, the statistics and the patterns together. Questions 31 and 32. */
 uint8_t lefkanu_analyze_frame(uint8_t rule, const uint8_t *frame, size_t frame_octets, size_t result[32],

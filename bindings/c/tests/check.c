@@ -138,6 +138,13 @@ octets joined(octets first, octets second)
     return only_read(at);
 }
 
+const size_t *given_numbers(size_t count, const size_t *numbers)
+{
+    uint8_t *at = lend(count * sizeof *numbers);
+    memcpy(at, numbers, count * sizeof *numbers);
+    return (const size_t *)(const void *)only_read(at).at;
+}
+
 uint8_t *lend_octets(size_t count)
 {
     return lend(count);

@@ -28,6 +28,9 @@ octets filled(uint8_t octet, size_t count);
 /* Octets behind others, between guards. */
 octets joined(octets first, octets second);
 
+/* Numbers that are only read, between guards. */
+const size_t *given_numbers(size_t count, const size_t *numbers);
+
 /* Memory to be written to, filled, between guards. */
 uint8_t *lend_octets(size_t count);
 uint16_t *lend_u16(void);
@@ -57,6 +60,7 @@ void test_bvlc(void);
 void test_ethernet(void);
 void test_validation(void);
 void test_analysis(void);
+void test_padding(void);
 void test_finder(void);
 void test_log(void);
 

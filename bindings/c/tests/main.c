@@ -9,6 +9,7 @@ int main(void)
     test_ethernet();
     test_validation();
     test_analysis();
+    test_padding();
     test_finder();
     test_log();
     return outcome() == 0 ? 0 : 1;

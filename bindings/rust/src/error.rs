@@ -78,12 +78,12 @@ pub type Result<T> = std::result::Result<T, DataLinkError>;
 /// | 46 | does the record fit the buffer? |
 ///
 /// Two answers of the C functions are no question and no error here. FE is `Ok(None)`; FF does not occur, since the enums
-/// have only cases that the library knows:
+/// have only cases that the library knows, and every `PaddingState` is a state:
 ///
 /// | answer | name | what it says |
 /// |---|---|---|
 /// | FE | `LEFKANU_NONE` | the finder's "none", the log's "start reached" |
-/// | FF | `LEFKANU_NO_CASE` | a number names no rule, frame type or function |
+/// | FF | `LEFKANU_NO_CASE` | a number names no rule, frame type, function or state |
 #[derive(Debug, Clone, Copy, PartialEq, Eq, Hash)]
 pub enum DataLinkError {
     /// Octets that are no such frame or message, or too many to be written.

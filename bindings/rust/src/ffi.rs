@@ -12,9 +12,10 @@ pub const NPDU: usize = 1;
 pub const TIME_TO_LIVE: usize = 2;
 pub const NO_NPDU: usize = 3;
 
-// How many numbers a validator's result has, and statistics beside the distribution.
+// How many numbers a validator's result has, statistics beside the distribution, and a state of the padding search.
 pub const RESULT_NUMBERS: usize = 32;
 pub const COUNT_NUMBERS: usize = 5;
+pub const PADDING_NUMBERS: usize = 3;
 
 #[link(name = "lefkanu", kind = "static")]
 extern "C" {
@@ -125,6 +126,11 @@ extern "C" {
         out_numbers: usize,
         count: *mut usize,
     ) -> u8;
+
+    pub fn lefkanu_padding_step(state: *mut [usize; PADDING_NUMBERS], octet: u8) -> u8;
+
+    pub fn lefkanu_padding_length(state: *const [usize; PADDING_NUMBERS], length: *mut usize)
+        -> u8;
 
     pub fn lefkanu_analyze_frame(
         rule: u8,

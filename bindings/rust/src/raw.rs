@@ -7,8 +7,9 @@
 //!   a local; the rest is behind `&`;
 //! - the library has the layout that `ffi` declares: `same_layout` asks before the first call.
 //!
-//! The answer FF, for a number that names no rule, type or function, does not come: the numbers are those of the cases
-//! of `CheckRule` (0, 1), `MstpFrameType` (0 to 7) and `BvlcFunction` (00 to 0C), and these are all named.
+//! The answer FF, for a number that names no rule, type, function or state, does not come: the numbers are those of the
+//! cases of `CheckRule` (0, 1), `MstpFrameType` (0 to 7) and `BvlcFunction` (00 to 0C), and these are all named; those
+//! of a state are made from a `bool` (0, 1), a `u8` (0 to 255) and a `usize`, and all of these are states.
 //!
 //! Places and counts that are answered lie within the caller's octets.
 
@@ -29,6 +30,9 @@ pub(crate) struct Counts {
     pub(crate) byte_distribution: [u32; 256],
     pub(crate) counts: [usize; ffi::COUNT_NUMBERS],
 }
+
+/// A state of the padding search, as numbers.
+pub(crate) type PaddingNumbers = [usize; ffi::PADDING_NUMBERS];
 
 /// What a BVLC message carries, with places in the message.
 pub(crate) enum Carried {
@@ -298,6 +302,21 @@ pub(crate) fn detect_patterns(frame: &[u8], out: &mut [u32]) -> Result<usize> {
         )
     };
     answered(answer, count)
+}
+
+pub(crate) fn padding_step(mut state: PaddingNumbers, octet: u8) -> PaddingNumbers {
+    same_layout();
+    // SAFETY: `state` is a local of the size declared.
+    let answer = unsafe { ffi::lefkanu_padding_step(&mut state, octet) };
+    given(answer, state)
+}
+
+pub(crate) fn padding_length(state: PaddingNumbers) -> usize {
+    same_layout();
+    let mut length = 0;
+    // SAFETY: `state` and `length` are two locals, the first of the size declared.
+    let answer = unsafe { ffi::lefkanu_padding_length(&state, &mut length) };
+    given(answer, length)
 }
 
 pub(crate) fn analyze_frame(

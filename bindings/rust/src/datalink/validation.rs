@@ -1,7 +1,8 @@
-//! What is wrong with a frame and what is unusual, its statistics and its patterns.
+//! What is wrong with a frame and what is unusual, its statistics, its patterns, and its padding in order of arrival.
 
 mod analysis;
 mod findings;
+mod padding;
 mod patterns;
 mod reasons;
 mod result;
@@ -9,6 +10,7 @@ mod statistics;
 
 pub use analysis::{analyze_frame, FrameAnalysis};
 pub use findings::{ValidationError, ValidationWarning};
+pub use padding::PaddingState;
 pub use patterns::{detect_patterns, Pattern};
 pub use reasons::{
     AddressReason, ConfigurationReason, HeaderReason, SecurityReason, SuspiciousReason,

@@ -79,6 +79,19 @@ fn patterns(frame: &[u8], room: usize) -> (u8, Vec<u32>, usize) {
     (answer, buffer, count)
 }
 
+/// Lends the middle of a buffer, and gives the whole.
+fn step(state: [usize; PADDING_NUMBERS], octet: u8) -> (u8, Vec<usize>) {
+    let mut buffer = between_others(state);
+    let lent = buffer[1..].first_chunk_mut().unwrap();
+    let answer = unsafe { lefkanu_padding_step(lent, octet) };
+    (answer, buffer)
+}
+
+/// A state with a number before it and one behind it.
+fn between_others(state: [usize; PADDING_NUMBERS]) -> Vec<usize> {
+    [&[NUMBER][..], &state, &[NUMBER]].concat()
+}
+
 fn read(rule: u8, run: &[u8], room: usize) -> (u8, Vec<u32>, usize) {
     let mut buffer = vec![WORD; room + 8];
     let out = &mut buffer[4..4 + room];
@@ -372,6 +385,71 @@ fn detect_patterns() {
     ] {
         let expected = (answer, vec![WORD; room + 8], NUMBER);
         assert_eq!(patterns(&frame, room), expected);
+    }
+}
+
+// Numbers that are no state: the first above 1, or the second above 255. Of the last four the lowest octet, or half,
+// would be one.
+const NO_STATES: [[usize; PADDING_NUMBERS]; 12] = [
+    [2, 0, 0],
+    [2, 0x41, 5],
+    [0, 256, 0],
+    [1, 256, 5],
+    [2, 256, 5],
+    [usize::MAX, 0x41, 5],
+    [1, usize::MAX, 5],
+    [usize::MAX; PADDING_NUMBERS],
+    [0x100, 0x41, 5],
+    [0x1_0000_0001, 0x41, 5],
+    [1, 0x141, 5],
+    [1, 0x1_0000_0041, 5],
+];
+
+#[test]
+fn padding_step() {
+    const MAX: usize = usize::MAX;
+    for (state, octet, expected) in [
+        ([0, 0, 0], 0x41, [1, 0x41, 0]),
+        ([0, 0, 0], 0x00, [1, 0x00, 0]),
+        ([1, 0x41, 0], 0x41, [1, 0x41, 1]),
+        ([1, 0x41, 3], 0x41, [1, 0x41, 4]),
+        ([1, 0x41, 0], 0xFF, [1, 0xFF, 1]),
+        ([1, 0xFF, 9], 0x41, [1, 0x41, 1]),
+        ([0, 7, 9], 8, [1, 8, 0]),
+        ([0, 8, 9], 8, [1, 8, 0]),
+        ([1, 0x41, 0xFFFF_FFFF], 0x41, [1, 0x41, 0x1_0000_0000]),
+        ([1, 0x41, MAX - 1], 0x41, [1, 0x41, MAX]),
+        ([1, 0x41, MAX], 0x41, [1, 0x41, MAX]),
+        ([1, 0x41, MAX], 0x42, [1, 0x42, 1]),
+    ] {
+        assert_eq!(step(state, octet), (0, between_others(expected)));
+    }
+    for state in NO_STATES {
+        assert_eq!(step(state, 0x41), (NO_CASE, between_others(state)));
+    }
+}
+
+#[test]
+fn padding_length() {
+    const MAX: usize = usize::MAX;
+    for (state, expected) in [
+        ([0, 0, 0], 0),
+        ([1, 0x41, 0], 0),
+        ([1, 0x41, 3], 0),
+        ([1, 0x41, 4], 4),
+        ([1, 0xFF, 65_536], 65_536),
+        ([0, 7, 9], 9),
+        ([1, 0x41, 0x1_0000_0003], 0x1_0000_0003),
+        ([1, 0x41, MAX], MAX),
+    ] {
+        let (lent, mut length) = (state, NUMBER);
+        let answered = unsafe { lefkanu_padding_length(&lent, &mut length) };
+        assert_eq!((answered, lent, length), (0, state, expected));
+    }
+    for state in NO_STATES {
+        let (lent, mut length) = (state, NUMBER);
+        let answered = unsafe { lefkanu_padding_length(&lent, &mut length) };
+        assert_eq!((answered, lent, length), (NO_CASE, state, NUMBER));
     }
 }
 
