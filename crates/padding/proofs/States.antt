@@ -15,7 +15,7 @@ use Rattle.runs.proofs.Back.{same, getD-reverse, back-le}
 use Rattle.runs.proofs.More.{more-again, more-anew}
 use Rattle.padding.specs.Padding.{last, endLength, paddingLength}
 use Rattle.padding.specs.State.{state, after, oneMore, runWith, next, counted}
-use Rattle.padding.specs.Laws.{InMemory, Follows, Counts, Example}
+use Rattle.padding.specs.Laws.{InMemory, Follows, Counts, StepExample, LengthExample}
 use Rattle.padding.specs.declared.PaddingState.{PaddingState}
 
 -- the last octet of octets with one more, and without the first
@@ -101,9 +101,9 @@ equals-state x (suc n) fits =
     ∙ ap (λ (a : PaddingState). next a x) (equals-state x n (omega arith))
     ∙ ap (state true x) (sym (run-again (state true x n) x refl refl) ∙ sym (one-more n (omega arith)) ∙ add-one n)
 
-example : Example
+step-example : StepExample
 unfolding equals after endLength front
-example = record {
+step-example = record {
   one = λ x. refl;
   two = λ x y. ap (state true y) (more-anew [] y (λ l e. omega arith));
   most = λ x n r h f.
@@ -113,22 +113,39 @@ example = record {
 }
 
 -- what the contract says of the next state
-pub is-next : (a : PaddingState) (x : ℕ) {n : ℕ} → n ≡ runWith a x → (state true x n ≡ next a x) × (Follows a x (state true x n) × Example)
-is-next a x e = rw e (refl, (λ s fits f. rw f (after-more s x fits), example))
+pub is-next : (a : PaddingState) (x : ℕ) {n : ℕ} → n ≡ runWith a x → (state true x n ≡ next a x) × (Follows a x (state true x n) × StepExample)
+is-next a x e = rw e (refl, (λ s fits f. rw f (after-more s x fits), step-example))
 
--- and of the padding: there is none, or all of the run is padding
+-- the padding of the octets so far: all of the run, or none
 module _ (a : PaddingState) where
-  abbrev Counted : ℕ → Type 0
-  Counted n = (n ≡ counted a) × Counts a n
-
-  counts : {n : ℕ} → n ≡ counted a → Counted n
+  counts : {n : ℕ} → n ≡ counted a → Counts a n
   unfolding counted after paddingLength
-  counts e = (e, λ s f. e ∙ rw f)
+  counts e s f = e ∙ rw f
 
-  pub counts-none : a .run < 4 → Counted 0
+  all-counted : 4 ≤ a .run → a .run ≡ counted a
   unfolding counted
-  counts-none h = counts (rw (lt-leb 4 (a .run) h))
+  all-counted h = rw (le-leb 4 (a .run) h)
 
-  pub counts-all : 4 ≤ a .run → Counted (a .run)
+  none-counted : a .run < 4 → 0 ≡ counted a
   unfolding counted
-  counts-all h = counts (rw (le-leb 4 (a .run) h))
+  none-counted h = rw (lt-leb 4 (a .run) h)
+
+length-example : LengthExample
+length-example = record {
+  some = λ x n m h fits f.
+      let e = sym (equals-state x n fits) in
+      f (equals x n) e ∙ sym (counts (state true x n) (all-counted (state true x n) h) (equals x n) e);
+  few = λ x n m h f.
+      let e = sym (equals-state x n (omega arith)) in
+      f (equals x n) e ∙ sym (counts (state true x n) (none-counted (state true x n) h) (equals x n) e);
+}
+
+-- what the contract says of it
+abbrev Counted : PaddingState → ℕ → Type 0
+Counted a n = (n ≡ counted a) × (Counts a n × LengthExample)
+
+pub counts-all : (a : PaddingState) → 4 ≤ a .run → Counted a (a .run)
+counts-all a h = let e = all-counted a h in (e, (counts a e, length-example))
+
+pub counts-none : (a : PaddingState) → a .run < 4 → Counted a 0
+counts-none a h = let e = none-counted a h in (e, (counts a e, length-example))

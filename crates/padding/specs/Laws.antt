@@ -1,6 +1,6 @@
 -- What the steps promise of a state that came about by octets.
 -- Assumes nothing.
-use Prim.Native.Nat.{ℕ, _+_, _^_, _<_}
+use Prim.Native.Nat.{ℕ, _+_, _^_, _≤_, _<_}
 use mathlib.Core.Path.{_≡_}
 use mathlib.Core.Bool.{true}
 use mathlib.Core.List.{List, [], _∷_, _++_}
@@ -22,7 +22,12 @@ abbrev pub Counts : PaddingState → ℕ → Type 0
 Counts a n = (s : List ℕ) → a ≡ after s → n ≡ paddingLength s
 
 -- the run is 0 after one octet and 1 after two; and from `Follows` alone: it grows as long as one more is a number
-pub record Example : Type 0 where
+pub record StepExample : Type 0 where
   pub one : (x : ℕ) → after (x ∷ []) ≡ state true x 0
   pub two : (x y : ℕ) → after (x ∷ y ∷ []) ≡ state true y 1
   pub most : (x n : ℕ) (r : PaddingState) → n + 1 < 2 ^ 64 → Follows (state true x n) x r → r ≡ state true x (n + 1)
+
+-- from `Counts` alone: a run of 4 or more is padding, however long, and one of fewer is none
+pub record LengthExample : Type 0 where
+  pub some : (x n m : ℕ) → 4 ≤ n → n < 2 ^ 64 → Counts (state true x n) m → m ≡ n
+  pub few : (x n m : ℕ) → n < 4 → Counts (state true x n) m → m ≡ 0

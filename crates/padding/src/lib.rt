@@ -2,7 +2,7 @@
 ghost use mathlib.Core.Path.{_≡_};
 ghost use mathlib.Core.List.{[]};
 ghost use Rattle.padding.specs.State.{after, runWith, next, counted};
-ghost use Rattle.padding.specs.Laws.{Follows, Counts, Example};
+ghost use Rattle.padding.specs.Laws.{Follows, Counts, StepExample, LengthExample};
 
 // What is remembered of the octets so far: whether one came yet, the last one, and how many at the end, one behind another
 // and without index 0, equal it.
@@ -44,7 +44,7 @@ impl PaddingState {
     pub fn step(self, octet: u8) -> PaddingState
         ensures { λ r. ⌜ r ≡ next self octet ⌝ }
         ensures follows { λ r. ⌜ Follows self octet r ⌝ }
-        ensures example { λ r. ⌜ Example ⌝ }
+        ensures example { λ r. ⌜ StepExample ⌝ }
     {
         PaddingState {
             started: true,
@@ -57,6 +57,7 @@ impl PaddingState {
     pub fn padding_length(self) -> usize
         ensures { λ r. ⌜ r ≡ counted self ⌝ }
         ensures padding { λ r. ⌜ Counts self r ⌝ }
+        ensures example { λ r. ⌜ LengthExample ⌝ }
     {
         if 4 <= self.run {
             return self.run;

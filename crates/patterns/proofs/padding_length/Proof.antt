@@ -10,7 +10,7 @@ returns : tie.Need-returns
 returns c =
     let a = c .before .before .before in
     let s = a .args .frame .now in
-    let e = c .padding-length .ensures .1 s (c .before .state-after .ensures) in
+    let e = c .padding-length .ensures .1 .0 s (c .before .state-after .ensures) in
     (e, omega (arith, padding-le s))
 
 pub padding-length-spec : {M : Type 1} → statement M

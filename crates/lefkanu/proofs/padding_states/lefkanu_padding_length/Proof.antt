@@ -9,7 +9,7 @@ use Rattle.lefkanu.proofs.padding_states.lefkanu_padding_length.Tie as 
 returns : tie.Need-returns
 returns c =
     let named = sym (c .before .before .before .before .state-of .ensures .0) ∙ c .before .before .known .given .1 in
-    counted-all _ _ named _ (c .padding-length .ensures .0) (c .padding-length .ensures .1)
+    counted-all _ _ named _ (c .padding-length .ensures .0) (c .padding-length .ensures .1 .0)
 
 returns-2 : tie.Need-returns-2
 returns-2 c = not-counted _ (sym (c .before .before .state-of .ensures .0) ∙ c .enum-told .given .1) _
