@@ -1,8 +1,11 @@
 pub mod Injective
+pub mod Laws
+pub mod Least
 pub mod Linear
 pub mod Octets
 pub mod Register
 pub mod Table
+pub mod Through
 pub mod TopBit
 pub mod Width
 pub mod Xor

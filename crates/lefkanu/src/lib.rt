@@ -22,6 +22,8 @@ pub use bvlc_messages::lefkanu_bvlc_encode;
 pub use bvlc_messages::lefkanu_process_bvlc_message;
 pub use checks::lefkanu_calculate_header_crc;
 pub use checks::lefkanu_crc16_mstp;
+pub use checks::lefkanu_data_table;
+pub use checks::lefkanu_header_table;
 pub use ethernet_frames::lefkanu_ethernet_decode;
 pub use ethernet_frames::lefkanu_ethernet_encode;
 pub use ethernet_frames::lefkanu_ethernet_validate;

@@ -6,7 +6,7 @@ use mstp_frame::MSTP_HEADER_SIZE;
 use mstp_frame::MSTP_LAST_TYPE;
 use mstp_frame::MstpFrameType;
 ghost use mathlib.Core.Path.{_≡_};
-ghost use Rattle.mstp_decode.specs.Decode.{checksQuestion, decodeQuestion, decode, frameData};
+ghost use Rattle.mstp_decode.specs.Decode.{dataQuestion, checksQuestion, decodeQuestion, decode, frameData};
 ghost use Rattle.mstp_decode.specs.RoundTrip.{WritesBack, DataOf};
 
 // The data check of a frame, present only if there are data.
@@ -31,13 +31,10 @@ pub enum MstpDecoded {
     Refused(u8),
 }
 
-// The first of questions 4 to 6 that `frame` fails, or 0: the header check, the size and the data check.
-pub fn checks_question(rule: CheckRule, frame: &[u8]) -> u8
-    ensures { λ r. ⌜ r ≡ checksQuestion rule (now (frame .entry)) ⌝ }
+// The first of questions 5 and 6 that `frame` fails, or 0: the size and the data check.
+pub fn data_question(rule: CheckRule, frame: &[u8]) -> u8
+    ensures { λ r. ⌜ r ≡ dataQuestion rule (now (frame .entry)) ⌝ }
 {
-    if !fields::header_check_right(rule, frame) {
-        return 4;
-    }
     if frame.len() != mstp_frame::frame_size(mstp_frame::data_length(frame)) {
         return 5;
     }
@@ -45,6 +42,16 @@ pub fn checks_question(rule: CheckRule, frame: &[u8]) -> u8
         return 6;
     }
     0
+}
+
+// The first of questions 4 to 6 that `frame` fails, or 0: the header check, the size and the data check.
+pub fn checks_question(rule: CheckRule, frame: &[u8]) -> u8
+    ensures { λ r. ⌜ r ≡ checksQuestion rule (now (frame .entry)) ⌝ }
+{
+    if !fields::header_check_right(rule, frame) {
+        return 4;
+    }
+    data_question(rule, frame)
 }
 
 // The first of questions 1 to 6 that `frame` fails, or 0.

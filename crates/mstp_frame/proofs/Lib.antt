@@ -1,2 +1,3 @@
 pub mod FrameTypes
+pub mod Header
 pub mod Sizes

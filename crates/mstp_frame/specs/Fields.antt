@@ -2,7 +2,7 @@
 -- Assumes nothing.
 use Prim.Native.Nat.{ℕ, _+_}
 use mathlib.Core.Bool.{Bool, _&&_}
-use mathlib.Core.List.{List}
+use mathlib.Core.List.{List, [], _∷_}
 use lib.Dec.{eqb}
 use lib.ListN.{getD, take, drop}
 use Rattle.octets.specs.Number.{number}
@@ -40,6 +40,10 @@ headerCheckSent s = getD s 7 0
 -- the five octets behind the preamble, which the header check covers
 abbrev pub fieldsPart : List ℕ → List ℕ
 fieldsPart s = take 5 (drop 2 s)
+
+-- the same octets, each by its place
+abbrev pub fieldOctets : List ℕ → List ℕ
+fieldOctets s = frameType s ∷ destinationOf s ∷ sourceOf s ∷ getD s 5 0 ∷ getD s 6 0 ∷ []
 
 -- their header check
 abbrev pub headerCheckOf : CheckRule → List ℕ → ℕ

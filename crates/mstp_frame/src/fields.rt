@@ -5,7 +5,7 @@ use crate::MSTP_PREAMBLE_FF;
 ghost use mathlib.Core.Path.{_≡_};
 ghost use lib.ListN.{getD, take, drop};
 ghost use Rattle.mstp_frame.specs.Fields.{preamble, beginsPreamble, frameType, destinationOf, sourceOf, dataLength};
-ghost use Rattle.mstp_frame.specs.Fields.{headerCheckSent, fieldsPart, dataPart, dataCheckSent};
+ghost use Rattle.mstp_frame.specs.Fields.{headerCheckSent, fieldsPart, fieldOctets, dataPart, dataCheckSent};
 
 // Places of a frame's octets. The data stand behind the header.
 const PREAMBLE: usize = 0;
@@ -103,6 +103,19 @@ pub fn fields_part(frame: &[u8]) -> &[u8]
     ensures { λ r. ⌜ now r ≡ fieldsPart (now (frame .entry)) ⌝ }
 {
     part(frame, FRAME_TYPE, HEADER_CHECK - FRAME_TYPE)
+}
+
+// The same octets by value.
+pub fn field_octets(frame: &[u8]) -> [u8; 5]
+    ensures { λ r. ⌜ r ≡ fieldOctets (now (frame .entry)) ⌝ }
+{
+    [
+        frame_type(frame),
+        destination(frame),
+        source(frame),
+        octet_at(frame, DATA_LENGTH),
+        octet_at(frame, DATA_LENGTH + 1),
+    ]
 }
 
 // As many octets behind the header as the data length says.

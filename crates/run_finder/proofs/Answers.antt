@@ -7,7 +7,7 @@ use Rattle.octets.proofs.Parts.{Octets}
 use Rattle.crc.specs.declared.CheckRule.{CheckRule}
 use Rattle.run_search.specs.declared.FrameFound.{FrameFound}
 use Rattle.run_finder.specs.Find.{find}
-use Rattle.run_finder.specs.Found.{Found}
+use Rattle.run_search.specs.Found.{Found}
 use Rattle.run_finder.specs.Calls.{Calls}
 use Rattle.run_finder.specs.Example.{Example}
 use Rattle.run_finder.proofs.Finds.{found-plain}

@@ -10,7 +10,7 @@ use lib.Seq.{length-take-le}
 use Rattle.octets.proofs.Parts.{Octets, octets-take, octets-drop, octets-behind}
 use Rattle.crc.specs.declared.CheckRule.{CheckRule}
 use Rattle.run_search.specs.declared.Report.{Report}
-use Rattle.run_finder.specs.Found.{octetsOf}
+use Rattle.run_search.specs.Found.{octetsOf}
 use Rattle.run_finder.proofs.Finds.{found-plain}
 use Rattle.run_finder.specs.Reading.{CallsGive, end, next, reading}
 use Rattle.run_finder.specs.Demand.{Each, frameOf, ReportPasses, Demand3}

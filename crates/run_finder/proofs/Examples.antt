@@ -9,7 +9,8 @@ use lib.ListN.{length, replicate, length-append, length-replicate}
 use Rattle.octets.specs.Question.{firstNo, answered}
 use Rattle.octets.specs.Range.{within}
 use Rattle.octets.proofs.Parts.{Octets, all-octets, octets-repeat}
-use Rattle.crc.specs.Check.{xorIf, step, steps, octetStep, register, check}
+use Rattle.crc_tables.specs.Steps.{xorIf, step, steps}
+use Rattle.crc.specs.Check.{octetStep, register, check}
 use Rattle.crc.specs.Rule.{headerCheck, dataCheck}
 use Rattle.crc.specs.declared.CheckRule.{CheckRule}
 use Rattle.crc.specs.declared.CheckRule.the-variants.{AnnexG}

@@ -11,7 +11,8 @@ use Rattle.octets.specs.Size.{sizeQuestion}
 use Rattle.octets.specs.Question.{isYes}
 use Rattle.octets.proofs.Parts.{Octets, allOctets, all-octets, octets-join}
 use Rattle.octets.proofs.Tests.{both-true}
-use Rattle.crc.specs.Check.{xorIf, step, steps, octetStep, register, check}
+use Rattle.crc_tables.specs.Steps.{xorIf, step, steps}
+use Rattle.crc.specs.Check.{octetStep, register, check}
 use Rattle.crc.specs.Rule.{headerCheck, dataCheck}
 use Rattle.crc.specs.declared.CheckRule.{CheckRule}
 use Rattle.crc.specs.declared.CheckRule.the-variants.{AnnexG, House}

@@ -18,7 +18,7 @@ use Rattle.mstp_frame.specs.Fields.{beginsPreamble}
 use Rattle.run_finder.specs.Demand.{Each, HeadOnce, placed, startingFrom}
 use Rattle.run_finder.proofs.Filled.{NoHead}
 use Rattle.run_finder.proofs.Frames.{own-begins, own-most, Stands}
-use Rattle.run_finder.proofs.Pass.{pass}
+use Rattle.run_search.specs.Reports.{pass}
 
 tail-none : (x : ℕ) (v : List ℕ) → NoHead (x ∷ v) → NoHead v
 tail-none x v none i here = none (suc i) here

@@ -1,6 +1,5 @@
 pub mod Filled
 pub mod Finds
-pub mod Next
 pub mod Frames
 pub mod Pass
 pub mod Late

@@ -22,7 +22,7 @@ use Rattle.mstp_encode.specs.Encode.{dataQuestion, roomQuestion, encodeAnswer, 
 use Rattle.validation_mstp.specs.Tests.{mstpErrors}
 use Rattle.run_search.specs.declared.Report.{Report}
 use Rattle.run_search.specs.Search.{report}
-use Rattle.run_finder.specs.Found.{octetsOf}
+use Rattle.run_search.specs.Found.{octetsOf}
 use Rattle.run_finder.specs.Reading.{WholeReading}
 
 -- P holds of each element

@@ -1,5 +1,4 @@
 pub mod Find
-pub mod Found
 pub mod Reading
 pub mod Demand
 pub mod Calls

@@ -6,9 +6,9 @@ use Prim.Native.Nat.{ℕ, zero, suc}
 use lib.ListN.{length}
 use Rattle.crc.specs.declared.CheckRule.{CheckRule}
 use Rattle.run_search.specs.declared.Report.{Report}
-use Rattle.run_search.specs.declared.FrameFound.{FrameFound}
-use Rattle.run_search.specs.declared.FrameFound.the-variants.{Frame, None, Refused}
+use Rattle.run_search.specs.declared.FrameFound.the-variants.{Frame, None}
 use Rattle.run_search.specs.Search.{endOf}
+use Rattle.run_search.specs.Reports.{andOn}
 use Rattle.run_finder.specs.Find.{find}
 
 -- the calls from a place on give these reports: "none" and no report, or a report and those of the calls from its end on
@@ -21,12 +21,6 @@ pub data CallsGive (rule : CheckRule) (run : List ℕ) : ℕ → List Report →
 pub record WholeReading (rule : CheckRule) (run : List ℕ) (rs : List Report) : Type 0 where
   pub read : CallsGive rule run 0 rs
   pub only : (others : List Report) → CallsGive rule run 0 others → others ≡ rs
-
--- what an answer reports, and behind a report what the calls from its end on do
-abbrev pub andOn : FrameFound → (ℕ → List Report) → List Report
-andOn (Frame r) on = r ∷ on (endOf r)
-andOn None on = []
-andOn (Refused question) on = []
 
 -- the reports of at most n calls, the first from a place
 unfoldable pub withinCalls : CheckRule → List ℕ → ℕ → ℕ → List Report

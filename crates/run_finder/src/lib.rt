@@ -4,7 +4,7 @@ use run_search::FrameFound;
 use run_search::Report;
 ghost use mathlib.Core.Path.{_≡_};
 ghost use Rattle.run_finder.specs.Find.{find};
-ghost use Rattle.run_finder.specs.Found.{Found};
+ghost use Rattle.run_search.specs.Found.{Found};
 ghost use Rattle.run_finder.specs.Calls.{Calls};
 ghost use Rattle.run_finder.specs.Example.{Example};
 

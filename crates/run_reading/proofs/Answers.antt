@@ -18,8 +18,9 @@ use Rattle.run_search.specs.declared.Report.{Report}
 use Rattle.octets.specs.declared.CountResult.{CountResult}
 use Rattle.octets.specs.declared.CountResult.the-variants.{Count, Refused}
 use Rattle.run_finder.specs.Reading.{WholeReading, reading}
+use Rattle.run_search.specs.Reports.{listNumbers}
 use Rattle.run_search.specs.Search.{reportNumbers}
-use Rattle.run_reading.specs.Answer.{countAnswer, CountOf, listNumbers, readQuestion, readAnswer, readOutput, reportsIn, Handed, Counted}
+use Rattle.run_reading.specs.Answer.{countAnswer, CountOf, readQuestion, readAnswer, readOutput, reportsIn, Handed, Counted}
 use Rattle.run_finder.specs.Demand.{Demand3}
 use Rattle.run_finder.proofs.Pass.{whole-reading}
 use Rattle.run_finder.proofs.Demand.{demand-3}

@@ -2,7 +2,7 @@
 -- Assumes nothing.
 use mathlib.Core.Path.{_≡_}
 use mathlib.Core.Bool.{true}
-use mathlib.Core.List.{List, [], _∷_, flatMap}
+use mathlib.Core.List.{List, [], _∷_}
 use Prim.Native.Nat.{ℕ, zero, suc}
 use lib.Dec.{leb}
 use lib.ListN.{length, getD, drop}
@@ -14,7 +14,8 @@ use Rattle.octets.specs.declared.CountResult.{CountResult}
 use Rattle.octets.specs.declared.CountResult.the-variants.{Count}
 use Rattle.crc.specs.declared.CheckRule.{CheckRule}
 use Rattle.run_search.specs.declared.Report.{Report}
-use Rattle.run_search.specs.Search.{report, reportNumbers}
+use Rattle.run_search.specs.Reports.{listNumbers}
+use Rattle.run_search.specs.Search.{report}
 use Rattle.run_finder.specs.Reading.{reading}
 
 -- counting asks 31 alone, and answers the count of the reports
@@ -28,10 +29,6 @@ CountOf P answer = WhereCounted answer (λ n. (rs : List Report) × P rs × (len
 -- every run that passes question 31, as those do that demand 3 speaks of, is counted
 abbrev pub Counted : CheckRule → List ℕ → CountResult → Type 0
 Counted rule run answer = isYes (sizeQuestion run) ≡ true → answer ≡ Count (length (reading rule run))
-
--- the two numbers of each report, in order
-unfoldable pub listNumbers : List Report → List ℕ
-listNumbers rs = flatMap reportNumbers rs
 
 -- the first question that fails, or 0: 31, then 32: all reports fit into the lent list
 unfoldable pub readQuestion : CheckRule → List ℕ → List ℕ → ℕ

@@ -3,42 +3,11 @@ use crc::CheckRule;
 use mstp_frame::MSTP_HEADER_SIZE;
 use octets::CountResult;
 ghost use mathlib.Core.Path.{_≡_};
-ghost use Prim.Native.Nat.{_+_, _*_, _≤_, _<_, _/_};
-ghost use lib.ListN.{length, set, take};
-ghost use Rattle.octets.specs.Output.{atFront};
+ghost use Prim.Native.Nat.{_≤_};
+ghost use lib.ListN.{length};
 ghost use Rattle.run_finder.specs.Reading.{WholeReading, reading};
-ghost use Rattle.run_reading.specs.Answer.{countAnswer, listNumbers, readAnswer, readOutput, CountOf, Counted, Handed};
+ghost use Rattle.run_reading.specs.Answer.{countAnswer, readAnswer, readOutput, CountOf, Counted, Handed};
 ghost use Rattle.run_finder.specs.Demand.{Demand3};
-
-// Stores place and octet count of a frame behind those of n others.
-fn store(out: &mut [u32], n: usize, place: usize, count: usize)
-    requires { ⌜ (2 * n + 1 < length (now out)) × (place + count ≤ 65535) ⌝ }
-    ensures { λ _. ⌜ now (out .exit) ≡ set (set (now (out .entry)) (2 * n) place) (2 * n + 1) count ⌝ }
-{
-    out[2 * n] = place as u32;
-    out[2 * n + 1] = count as u32;
-}
-
-// Stores place and octet count of each frame at the front of a list, as many as it has room for, and answers how many
-// frames there are.
-fn store_reports(rule: CheckRule, run: &[u8], out: &mut [u32]) -> usize
-    requires { ⌜ length (now run) ≤ 65535 ⌝ }
-    ensures { λ r. ⌜ r ≡ length (reading rule (now (run .entry))) ⌝ }
-    ensures output { λ r. ⌜ now (out .exit)
-        ≡ atFront (listNumbers (take (length (now (out .entry)) / 2) (reading rule (now (run .entry))))) (now (out .entry)) ⌝ }
-{
-    let mut n: usize = 0;
-    let mut p = run_search::next_frame(rule, run, 0);
-    while p < run.len() {
-        let size = run_search::size_at(run, p);
-        if n < out.len() / 2 {
-            store(out, n, p, size);
-        }
-        n += 1;
-        p = run_search::next_frame(rule, run, p + size);
-    }
-    n
-}
 
 // How many frames a run has: none of them stored.
 fn count_reports(rule: CheckRule, run: &[u8]) -> usize
@@ -46,7 +15,7 @@ fn count_reports(rule: CheckRule, run: &[u8]) -> usize
     ensures { λ r. ⌜ r ≡ length (reading rule (now (run .entry))) ⌝ }
 {
     let mut none: [u32; 0] = [];
-    store_reports(rule, run, &mut none)
+    run_search::store_reports(rule, run, &mut none)
 }
 
 // How many frames a whole reading of a run finds, or the question that fails. Demand 3: of a run that begins with damage
@@ -81,5 +50,5 @@ pub fn read_frames(rule: CheckRule, run: &[u8], out: &mut [u32]) -> CountResult
             return CountResult::Refused(32);
         }
     }
-    CountResult::Count(store_reports(rule, run, out))
+    CountResult::Count(run_search::store_reports(rule, run, out))
 }

@@ -2,3 +2,9 @@ pub mod Acceptables
 pub mod Searches
 pub mod Sizes
 pub mod Turns
+pub mod Plain
+pub mod Next
+pub mod Pass
+pub mod Loop
+pub mod Asked
+pub mod Whole

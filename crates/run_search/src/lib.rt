@@ -1,12 +1,15 @@
 // The search for acceptable MS/TP frames in a run, under either check rule.
+mod through;
+
 use crc::CheckRule;
 use mstp_frame::MSTP_HEADER_SIZE;
-use mstp_frame::MSTP_LAST_TYPE;
-use mstp_frame::MSTP_PREAMBLE_55;
 ghost use mathlib.Core.Path.{_≡_};
+ghost use Prim.Native.Nat.{_/_};
+ghost use lib.ListN.{length, take};
+ghost use Rattle.octets.specs.Output.{atFront};
 ghost use Rattle.run_search.specs.Acceptable.{acceptable};
+ghost use Rattle.run_search.specs.Reports.{reports, listNumbers};
 ghost use Rattle.run_search.specs.Search.{sizeAt, nextFrame};
-ghost use Rattle.run_search.specs.Steps.{NoneBefore};
 
 // A frame found in a run: its place and its octet count.
 pub struct Report {
@@ -25,24 +28,8 @@ pub enum FrameFound {
 pub fn acceptable(rule: CheckRule, frame: &[u8]) -> bool
     ensures { λ r. ⌜ r ≡ acceptable rule (now (frame .entry)) ⌝ }
 {
-    if MSTP_LAST_TYPE < mstp_frame::frame_type(frame) {
-        return false;
-    }
-    validation_mstp::errorless(rule, frame)
-}
-
-// The next octet 55 from a place on, or the end; a place behind the end stays.
-fn next_55(run: &[u8], from: usize) -> usize
-    ensures { λ r. ⌜ NoneBefore (now (run .entry)) from r ⌝ }
-{
-    let mut p = from;
-    while p < run.len() {
-        if run[p] == MSTP_PREAMBLE_55 {
-            return p;
-        }
-        p += 1;
-    }
-    p
+    let table = crc::header_table(rule);
+    through::acceptable(rule, &table, frame)
 }
 
 // The octet count that the header at a place says; 8, a header's, where fewer octets are left.
@@ -62,16 +49,20 @@ pub fn size_at(run: &[u8], p: usize) -> usize
 pub fn next_frame(rule: CheckRule, run: &[u8], from: usize) -> usize
     ensures { λ r. ⌜ r ≡ nextFrame rule (now (run .entry)) from ⌝ }
 {
-    let mut p = next_55(run, from);
-    while p < run.len() {
-        let size = size_at(run, p);
-        if run.len() - p < size {
-            p = next_55(run, p + 1); // it would run off the end
-        } else if acceptable(rule, &run[p..p + size]) {
-            return p;
-        } else {
-            p = next_55(run, p + 1); // it is broken
-        }
+    let table = crc::header_table(rule);
+    through::next_frame(rule, &table, run, from)
+}
+
+// Stores place and octet count of each frame of a run at the front of a list, as many as it has room for, and answers how
+// many frames there are: each next one from the last one's end on. A run of more than 65,535 octets is not looked at.
+pub fn store_reports(rule: CheckRule, run: &[u8], out: &mut [u32]) -> usize
+    ensures { λ r. ⌜ r ≡ length (reports rule (now (run .entry))) ⌝ }
+    ensures output { λ r. ⌜ now (out .exit)
+        ≡ atFront (listNumbers (take (length (now (out .entry)) / 2) (reports rule (now (run .entry))))) (now (out .entry)) ⌝ }
+{
+    if !octets::at_most_65535(run.len()) {
+        return 0;
     }
-    run.len()
+    let table = crc::header_table(rule);
+    through::store_reports(rule, &table, run, out)
 }

@@ -5,7 +5,8 @@ use mathlib.Core.List.{flatMap}
 use Rattle.octets.specs.Question.{firstNo, answered}
 use Rattle.octets.specs.Output.{atFront, writeAnswer, writeOutput}
 use Rattle.octets.specs.Range.{within}
-use Rattle.crc.specs.Check.{xorIf, step, steps, octetStep, register, check}
+use Rattle.crc_tables.specs.Steps.{xorIf, step, steps}
+use Rattle.crc.specs.Check.{octetStep, register, check}
 use Rattle.crc.specs.Rule.{headerCheck, dataCheck}
 use Rattle.mstp_decode.specs.Frame.{encodeFrame}
 use Rattle.mstp_encode.specs.Encode.{encodeQuestions, encodeQuestion, encodeAnswer, encodeOutput}

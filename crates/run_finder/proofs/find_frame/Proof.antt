@@ -10,7 +10,7 @@ use Rattle.run_search.specs.Search.{report, searchFrom}
 use Rattle.run_finder.specs.Find.{find}
 use Rattle.run_finder.proofs.Answers.{answers}
 use Rattle.run_finder.proofs.Finds.{too-long, beyond, find-search}
-use Rattle.run_finder.proofs.Next.{Next, next}
+use Rattle.run_search.proofs.Next.{Next, next}
 use borrow.Author.Needs.{needs}
 use Rattle.run_finder.proofs.find_frame.Statement.{statement}
 use Rattle.run_finder.proofs.find_frame.Tie as tie

@@ -11,7 +11,7 @@ use lib.ListN.{length}
 use Rattle.octets.specs.Size.{atMost65535}
 use Rattle.octets.proofs.Parts.{Octets}
 use Rattle.run_finder.specs.Reading.{reading}
-use Rattle.run_finder.proofs.Pass.{few-reports}
+use Rattle.run_finder.proofs.Pass.{reading-reports, few-reports}
 use Rattle.run_reading.proofs.Answers.{read-refused, no-room, read}
 use Rattle.run_reading.proofs.read_frames.Statement.{statement}
 use Rattle.run_reading.proofs.read_frames.Tie as tie
@@ -40,15 +40,15 @@ returns-2 c =
     let few = c .before .before .before in
     no-room _ _ (octets (few .before)) _ (fits few) (c .before .count-reports .ensures) (omega arith)
 
-store-reports-requires : tie.Need-store-reports-requires
-store-reports-requires c κs = leb-true _ 65535 (fits (c .before .before))
-
 returns-3 : tie.Need-returns-3
 returns-3 c =
     let stored = c .before .before in
     let joined = stored .before .before in
-    read _ _ (octets (joined .before .before)) _ (fits (joined .before)) (stored .store-reports .ensures .0)
-    (omega (arith, room joined, stored .store-reports .ensures .0)) (stored .store-reports .ensures .1)
+    let known = octets (joined .before .before) in
+    let a = joined .before .before .before .before .before .args in
+    let whole = reading-reports (a .rule) (a .run .now) (leb-true _ 65535 (fits (joined .before))) known in
+    let counted = rw (← whole) at (stored .store-reports .ensures .0) in
+    read _ _ known _ (fits (joined .before)) counted (omega (arith, room joined, counted)) (rw (← whole) at (stored .store-reports .ensures .1))
 
 pub read-frames-spec : {M : Type 1} → statement M
 read-frames-spec =
@@ -58,6 +58,6 @@ read-frames-spec =
     returns
     count-reports-requires
     returns-2
-    store-reports-requires
+    (λ c κs. search needs)
     (λ c. search needs)
     returns-3)
