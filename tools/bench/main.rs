@@ -9,6 +9,7 @@
 
 mod analysis;
 mod bvlc;
+mod check_tables;
 mod checks;
 mod ethernet;
 mod frames;
@@ -28,7 +29,7 @@ use row::{Calls, Row};
 const CALLS: usize = 10;
 
 // Makes some rows.
-const ROWS: [fn() -> Vec<Row>; 8] = [
+const ROWS: [fn() -> Vec<Row>; 9] = [
     checks::rows,
     mstp::rows,
     bvlc::rows,
@@ -37,6 +38,7 @@ const ROWS: [fn() -> Vec<Row>; 8] = [
     analysis::rows,
     readings::rows,
     logs::rows,
+    check_tables::rows,
 ];
 
 fn rows() -> Vec<Row> {

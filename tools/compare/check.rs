@@ -1,7 +1,10 @@
-// The check octets under document 01's two rules, by division of polynomials over single bits: the
-// octets' bits, least significant first, over a generator. No register is shifted.
+// The check octets under document 01's two rules, and document 02's tables, by division of polynomials
+// over single bits: the octets' bits, least significant first, over a generator. No register is
+// shifted.
 
-use ffi::NO_CASE;
+use std::array::from_fn;
+
+use ffi::{NO_CASE, TABLE_ENTRIES};
 use shared::model::checks::Checks;
 use shared::model::trials;
 
@@ -36,6 +39,16 @@ impl Rule {
             Rule::House => &HOUSE,
         }
     }
+
+    // The table of the header check.
+    pub fn header_table(self) -> [u8; TABLE_ENTRIES] {
+        from_fn(|octet| self.generators()[0].entry(octet as u8) as u8)
+    }
+
+    // The table of the data check.
+    pub fn data_table(self) -> [u16; TABLE_ENTRIES] {
+        from_fn(|octet| self.generators()[1].entry(octet as u8))
+    }
 }
 
 impl Checks for Rule {
@@ -53,9 +66,19 @@ impl Checks for Rule {
 }
 
 impl Generator {
-    // The remainder's complement, its highest term as the lowest bit. That all bits are one at the
-    // start means that the dividend's first bits are turned.
+    // The check: all bits are one at the start, and the remainder is complemented.
     fn check(&self, octets: &[u8]) -> u16 {
+        !self.remainder(octets, true)
+    }
+
+    // An octet's entry: nothing is added before or complemented after.
+    fn entry(&self, octet: u8) -> u16 {
+        self.remainder(&[octet], false)
+    }
+
+    // The remainder, its highest term as the lowest bit. That all bits are one at the start means that
+    // the dividend's first bits are turned.
+    fn remainder(&self, octets: &[u8], ones: bool) -> u16 {
         let Generator(degree, terms) = *self;
         let count = 8 * octets.len();
         let mut bits = vec![false; count + degree];
@@ -63,7 +86,7 @@ impl Generator {
             *bit = octets[place / 8] >> (place % 8) & 1 == 1;
         }
         for bit in &mut bits[..degree] {
-            *bit = !*bit;
+            *bit ^= ones;
         }
         for place in 0..count {
             if bits[place] {
@@ -72,7 +95,7 @@ impl Generator {
                 }
             }
         }
-        let lower = |number: u16, bit: &bool| 2 * number + u16::from(!bit);
+        let lower = |number: u16, bit: &bool| 2 * number + u16::from(*bit);
         bits[count..].iter().rev().fold(0, lower)
     }
 }

@@ -5,7 +5,8 @@ use shared::random::Random;
 
 use crate::tally::Tally;
 use crate::{
-    analysis, bip, checks, errors, ethernet, finder, log, mstp, padding, readings, validation,
+    analysis, bip, check_tables, checks, errors, ethernet, finder, log, mstp, padding, readings,
+    validation,
 };
 
 pub struct Function {
@@ -18,7 +19,8 @@ pub struct Function {
     // report that reaches from the damage over a head; c a run of a state by its count of octets, 5 for
     // all above 4; s1 a step with a first octet, s2 with one that starts the run anew, s3 with the same
     // behind a run of 0, so with a second equal to the first, s4 with the same behind a longer run, s5
-    // behind the highest count.
+    // behind the highest count; u256 checks that use all entries of a table, by the reasons 1 Annex G's
+    // and 2 the house rule's.
     pub answers: &'static [u8],
     pub sights: &'static str,
     pub compare: fn(&mut Tally, &mut Random),
@@ -36,6 +38,7 @@ const MESSAGES: &str = "m1 m2 m3";
 const DEMAND_3: &str = "d1 d2";
 const STEPS: &str = "c0 c1 c2 c3 c4 c5 s1 s2 s3 s4 s5";
 const STATES: &str = "c0 c1 c2 c3 c4 c5";
+const ENTRIES: &str = "u256.1 u256.2";
 
 // Each by its name, answers, what its results have, and comparison.
 macro_rules! functions {
@@ -77,6 +80,8 @@ pub const ALL: &[Function] = functions! {
     "append" [0, 42, 43, 46, 47], "", log::append;
     "padding_step" [0, NO_CASE], STEPS, padding::step;
     "padding_length" [0, NO_CASE], STATES, padding::length;
+    "header_table" [0, NO_CASE], ENTRIES, check_tables::header;
+    "data_table" [0, NO_CASE], ENTRIES, check_tables::data;
 };
 
 // The function that has no input: it is asked once.

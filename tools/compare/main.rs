@@ -7,6 +7,7 @@ mod analysis;
 mod bip;
 mod call;
 mod check;
+mod check_tables;
 mod checks;
 mod demand_3;
 mod errors;

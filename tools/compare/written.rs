@@ -1,5 +1,6 @@
 // Results as they stand in lent memory.
 
+use ffi::TABLE_ENTRIES;
 use shared::model::analysis::Analysis;
 use shared::model::finder::Report;
 use shared::model::findings::Findings;
@@ -45,6 +46,9 @@ in_memory! {
     (): _nothing => Vec::new();
     // A check or a count.
     usize: number => vec![numbers(&[*number])];
+    // A check table.
+    [u8; TABLE_ENTRIES]: table => vec![numbers(table)];
+    [u16; TABLE_ENTRIES]: table => vec![numbers(table)];
     // Octets in an output.
     Vec<u8>: octets => counted(octets, octets.len());
     mstp::Frame<'_>: frame => vec![numbers(&frame.numbers())];
