@@ -94,6 +94,18 @@ uint8_t lefkanu_calculate_header_crc(uint8_t rule, const uint8_t header[5], uint
 /* The data check of any octets. */
 uint8_t lefkanu_crc16_mstp(uint8_t rule, const uint8_t *data, size_t data_octets, uint16_t *crc);
 
+/* The check tables, which controllers burn. Entry i is i after eight steps, each a shift right and, if the bit shifted
+   out was 1, an XOR with the rule's constant; nothing is added before or complemented after. A check starts with all
+   bits one, changes with each octet as written below, and is complemented at the end. No question. */
+#define LEFKANU_TABLE_ENTRIES 256
+
+/* The table of the header check: crc = table[crc ^ octet]. Constant 81 under Annex G, 55 under the house rule. */
+uint8_t lefkanu_header_table(uint8_t rule, uint8_t table[256]);
+
+/* The table of the data check: crc = table[(crc ^ octet) & 0xFF] ^ (crc >> 8). Constant 8408 under Annex G, A001 under
+   the house rule. */
+uint8_t lefkanu_data_table(uint8_t rule, uint16_t table[256]);
+
 /* MS/TP frames. */
 
 /* Reads a frame. header: type, destination, source, header check, 1 if there is a data check else 0, data check or 0,

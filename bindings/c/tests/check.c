@@ -150,9 +150,9 @@ uint8_t *lend_octets(size_t count)
     return lend(count);
 }
 
-uint16_t *lend_u16(void)
+uint16_t *lend_u16(size_t count)
 {
-    return (uint16_t *)(void *)lend(sizeof(uint16_t));
+    return (uint16_t *)(void *)lend(count * sizeof(uint16_t));
 }
 
 uint32_t *lend_words(size_t count)

@@ -33,7 +33,7 @@ const size_t *given_numbers(size_t count, const size_t *numbers);
 
 /* Memory to be written to, filled, between guards. */
 uint8_t *lend_octets(size_t count);
-uint16_t *lend_u16(void);
+uint16_t *lend_u16(size_t count);
 uint32_t *lend_words(size_t count);
 size_t *lend_numbers(size_t count);
 

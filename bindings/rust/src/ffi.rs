@@ -17,6 +17,9 @@ pub const RESULT_NUMBERS: usize = 32;
 pub const COUNT_NUMBERS: usize = 5;
 pub const PADDING_NUMBERS: usize = 3;
 
+// How many entries a check table has.
+pub const TABLE_ENTRIES: usize = 256;
+
 #[link(name = "lefkanu", kind = "static")]
 extern "C" {
     pub fn lefkanu_layout_version() -> u32;
@@ -26,6 +29,10 @@ extern "C" {
     pub fn lefkanu_calculate_header_crc(rule: u8, header: *const [u8; 5], crc: *mut u8) -> u8;
 
     pub fn lefkanu_crc16_mstp(rule: u8, data: *const u8, data_octets: usize, crc: *mut u16) -> u8;
+
+    pub fn lefkanu_header_table(rule: u8, table: *mut [u8; TABLE_ENTRIES]) -> u8;
+
+    pub fn lefkanu_data_table(rule: u8, table: *mut [u16; TABLE_ENTRIES]) -> u8;
 
     pub fn lefkanu_mstp_decode(
         rule: u8,

@@ -106,6 +106,22 @@ pub(crate) fn crc16_mstp(rule: CheckRule, data: &[u8]) -> u16 {
     given(answer, crc)
 }
 
+pub(crate) fn header_table(rule: CheckRule) -> [u8; ffi::TABLE_ENTRIES] {
+    same_layout();
+    let mut table = [0; ffi::TABLE_ENTRIES];
+    // SAFETY: `table` is a local of the size declared.
+    let answer = unsafe { ffi::lefkanu_header_table(rule as u8, &mut table) };
+    given(answer, table)
+}
+
+pub(crate) fn data_table(rule: CheckRule) -> [u16; ffi::TABLE_ENTRIES] {
+    same_layout();
+    let mut table = [0; ffi::TABLE_ENTRIES];
+    // SAFETY: `table` is a local of the size declared.
+    let answer = unsafe { ffi::lefkanu_data_table(rule as u8, &mut table) };
+    given(answer, table)
+}
+
 pub(crate) fn mstp_decode(rule: CheckRule, frame: &[u8]) -> Result<[usize; 8]> {
     same_layout();
     let mut header = [0; 8];

@@ -215,3 +215,21 @@ pub fn encode_into(
 pub fn calculate_header_crc(rule: CheckRule, header: &[u8; 5]) -> u8 {
     raw::calculate_header_crc(rule, header)
 }
+
+/// The table of the header check, which controllers burn. Entry `i` is `i` after eight steps, each a shift right and,
+/// if the bit shifted out was 1, an XOR with the rule's constant. A check starts with all bits one, becomes
+/// `table[crc ^ octet]` with each octet, and is complemented at the end.
+///
+/// ```
+/// use lefkanu::{datalink::mstp::header_table, CheckRule};
+///
+/// let table = header_table(CheckRule::AnnexG);
+/// let mut crc = 0xFF;
+/// for octet in [0x00, 0x10, 0x05, 0x00, 0x00] {
+///     crc = table[usize::from(crc ^ octet)];
+/// }
+/// assert_eq!(!crc, 0x8C);
+/// ```
+pub fn header_table(rule: CheckRule) -> [u8; 256] {
+    raw::header_table(rule)
+}

@@ -1,6 +1,8 @@
 //! The C functions themselves: what they answer, that a refusal writes nothing, and that beside a result nothing is
 //! written.
 
+use std::array::from_fn;
+
 use crate::ffi::*;
 
 const ANNEX_G: u8 = 0;
@@ -143,6 +145,41 @@ fn checks() {
         };
         assert_eq!((header_answer, data_answer), (answer, answer));
         assert_eq!((header_crc, data_crc), expected);
+    }
+}
+
+/// A number after eight steps: shift right; if the bit shifted out was 1, XOR the constant.
+fn stepped(number: usize, constant: usize) -> usize {
+    let step = |crc, _| (crc >> 1) ^ if crc & 1 == 1 { constant } else { 0 };
+    (0..8).fold(number, step)
+}
+
+fn header_entries(constant: usize) -> [u8; TABLE_ENTRIES] {
+    from_fn(|number| stepped(number, constant) as u8)
+}
+
+fn data_entries(constant: usize) -> [u16; TABLE_ENTRIES] {
+    from_fn(|number| stepped(number, constant) as u16)
+}
+
+// Each entry is written: none equals both fillings.
+#[test]
+fn tables() {
+    for (rule, filling) in (0..=0xFF).flat_map(|rule| [(rule, 0x00), (rule, OCTET)]) {
+        let octets = [filling; TABLE_ENTRIES];
+        let words = [u16::from_ne_bytes([filling; 2]); TABLE_ENTRIES];
+        // The middle is lent.
+        let (mut header_tables, mut data_tables) = ([octets; 3], [words; 3]);
+        let header_answer = unsafe { lefkanu_header_table(rule, &mut header_tables[1]) };
+        let data_answer = unsafe { lefkanu_data_table(rule, &mut data_tables[1]) };
+        let (answer, header_table, data_table) = match rule {
+            ANNEX_G => (0, header_entries(0x81), data_entries(0x8408)),
+            HOUSE => (0, header_entries(0x55), data_entries(0xA001)),
+            _ => (NO_CASE, octets, words),
+        };
+        assert_eq!((header_answer, data_answer), (answer, answer));
+        assert_eq!(header_tables, [octets, header_table, octets]);
+        assert_eq!(data_tables, [words, data_table, words]);
     }
 }
 
