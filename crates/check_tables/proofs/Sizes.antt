@@ -1,16 +1,15 @@
 -- How many octets the text has, and that it fills the memory that has as many.
 -- Assumes nothing.
 use mathlib.Core.Path.{_≡_, refl, ap, _∙_}
-use mathlib.Core.List.{List, [], _∷_, _++_, append-nil, flatMap}
+use mathlib.Core.List.{List, [], _∷_, flatMap}
 use Prim.Native.Nat.{ℕ, zero, suc, _/_, _*_}
 use native.Mathlib.Nat.{suc-mul}
 use native.Mathlib.Omega.{arith}
-use lib.ListN.{length, length-append, drop-of-length-le}
+use lib.ListN.{length, length-append}
 use Rattle.io.specs.Counts.{Counts}
 use Rattle.io.proofs.Counting.{counts}
-use Rattle.octets.specs.Output.{atFront}
 use Rattle.octets.specs.Put.{Put}
-use Rattle.octets.proofs.Puts.{put-front}
+use Rattle.octets.proofs.Puts.{put-front, put-whole}
 use Rattle.text.specs.Text.{hexadecimal}
 use Rattle.crc_tables.specs.Table.{entries, tableOf}
 use Rattle.crc.specs.declared.CheckRule.{CheckRule}
@@ -53,9 +52,7 @@ length-text = simp (length-append, length-rule)
 -- what is there, and how many octets of it, after a text was put that has as many as the memory
 pub fills : {text before after : List ℕ} {n : ℕ} → length text ≡ length before → Put text before 0 after n
     → (n ≡ length text) × ((after ≡ text) × Counts n after)
-unfolding atFront
 fills {text} {before} {after} {n} same put =
-    let front = put-front put in
-    let all : after ≡ text =
-    front .1 ∙ ap (λ (l : List ℕ). text ++ l) (drop-of-length-le before {i = length text} (omega arith)) ∙ append-nil text in
-    (front .0, (all, counts n after (omega (arith, front .0, ap length all))))
+    let count = put-front put .0 in
+    let all = put-whole same put in
+    (count, (all, counts n after (omega (arith, count, ap length all))))

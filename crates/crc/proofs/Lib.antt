@@ -1,3 +1,5 @@
+pub mod Burst
+pub mod EveryBurst
 pub mod Injective
 pub mod Laws
 pub mod Least
@@ -8,4 +10,5 @@ pub mod Table
 pub mod Through
 pub mod TopBit
 pub mod Width
+pub mod Word
 pub mod Xor

@@ -1,5 +1,10 @@
 pub mod Accepted
 pub mod Answers
-pub mod Sizes
+pub mod Change
+pub mod Example
+pub mod Finds
+pub mod Limits
+pub mod OneOctet
 pub mod ReadsBack
+pub mod Sizes
 pub mod WritesBack

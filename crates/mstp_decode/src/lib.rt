@@ -7,6 +7,9 @@ use mstp_frame::MSTP_LAST_TYPE;
 use mstp_frame::MstpFrameType;
 ghost use mathlib.Core.Path.{_≡_};
 ghost use Rattle.mstp_decode.specs.Decode.{dataQuestion, checksQuestion, decodeQuestion, decode, frameData};
+ghost use Rattle.mstp_decode.specs.Change.{FindsChanges};
+ghost use Rattle.mstp_decode.specs.Example.{Example};
+ghost use Rattle.mstp_decode.specs.Limits.{Limits};
 ghost use Rattle.mstp_decode.specs.RoundTrip.{WritesBack, DataOf};
 
 // The data check of a frame, present only if there are data.
@@ -70,10 +73,15 @@ fn decode_question(rule: CheckRule, frame: &[u8]) -> u8
     checks_question(rule, frame)
 }
 
-// Reads a frame: its header, which written anew with the frame's data is the frame, or the first question that fails.
+// Reads a frame: its header, which written anew with the frame's data is the frame, or the first question that fails. A
+// written frame with one octet changed is read only under the house rule, and only where an address was XORed with AB; one
+// with a change confined to as many neighbouring bits as a check finds is not read.
 pub fn decode(rule: CheckRule, frame: &[u8]) -> MstpDecoded
     ensures { λ r. ⌜ r ≡ decode rule (now (frame .entry)) ⌝ }
     ensures back { λ r. ⌜ WritesBack rule (now (frame .entry)) r ⌝ }
+    ensures changes { λ r. ⌜ FindsChanges rule (now (frame .entry)) r ⌝ }
+    ensures example { λ r. ⌜ Example ⌝ }
+    ensures limits { λ r. ⌜ Limits ⌝ }
 {
     let question = decode_question(rule, frame);
     if question != 0 {

@@ -1,6 +1,6 @@
 -- The writer's parts and returns: what the stores leave in the lent output.
 -- Assumes nothing.
-use mathlib.Core.Path.{_≡_, refl, sym, ap, _∙_}
+use mathlib.Core.Path.{_≡_, refl, sym, _∙_}
 use mathlib.Core.List.{List, [], _∷_, _++_}
 use Prim.Native.Nat.{ℕ, _+_, _-_, _/_, _%_, _≤_, _<_}
 use native.Mathlib.Omega.{arith}
@@ -10,7 +10,9 @@ use Rattle.octets.specs.Number.{highFirst, lowFirst}
 use Rattle.octets.specs.Put.{Put}
 use Rattle.octets.specs.declared.CountResult.{CountResult}
 use Rattle.octets.specs.declared.CountResult.the-variants.{Count, Refused}
+use Rattle.octets.specs.Output.{InFront}
 use Rattle.octets.proofs.Outputs.{refuses, writes}
+use Rattle.octets.proofs.Parts.{Octets}
 use Rattle.octets.proofs.Puts.{put-more, room-more, put-front}
 use Rattle.octets.proofs.Questions.{passed, failed, none-fails}
 use Rattle.crc.specs.Rule.{headerCheck, dataCheck}
@@ -20,10 +22,12 @@ use Rattle.mstp_encode.specs.Encode.{encodeQuestions, encodeQuestion, en
 use Rattle.mstp_frame.specs.Size.{frameSize}
 use Rattle.mstp_decode.specs.Frame.{headerFields, headerOctets, dataOctets, encodeFrame}
 use Rattle.mstp_frame.specs.FrameType.{typeNumber}
+use Rattle.mstp_decode.specs.Change.{WrittenFrame}
 use Rattle.mstp_decode.specs.RoundTrip.{GivesBack, ReadsBack}
 use Rattle.mstp_decode.proofs.ReadsBack.{decode-back, data-back}
 use Rattle.mstp_frame.proofs.Sizes.{size-least}
 use Rattle.mstp_decode.proofs.Sizes.{encoded-size}
+use Rattle.mstp_encode.proofs.Written.{written}
 
 -- eight octets are a header
 pub header-is : (rule : CheckRule) (t : MstpFrameType) (destination source n : ℕ) {number check : ℕ}
@@ -51,11 +55,13 @@ module _ (rule : CheckRule) (t : MstpFrameType) (destination source : ℕ) (body
   abbrev Encoded : CountResult → List ℕ → Type 0
   Encoded answer l =
       (answer ≡ encodeAnswer rule t destination source body out)
-      × ((l ≡ encodeOutput rule t destination source body out) × ReadsBack rule t destination source body l answer)
+      × ((l ≡ encodeOutput rule t destination source body out)
+      × (ReadsBack rule t destination source body l answer × InFront (WrittenFrame rule) answer l))
 
   refused : {q : ℕ} → q ≡ encodeQuestion rule t destination source body out → (q ≡ 0 → ⊥) → Encoded (Refused q) out
   unfolding encodeAnswer encodeOutput
-  refused asked fails = refuses (GivesBack rule t destination source body) frame out asked fails
+  refused asked fails =
+      let r = refuses (GivesBack rule t destination source body) frame out asked fails in (r .0, (r .1 .0, (r .1 .1, tt)))
 
   pub too-long : 501 < length body → Encoded (Refused 7) out
   unfolding encodeQuestion encodeQuestions
@@ -89,9 +95,13 @@ module _ (rule : CheckRule) (t : MstpFrameType) (destination source : ℕ) (body
         data-fits = room-more first (dataOctets rule body) (omega (arith, frame-size-is, room))
 
         -- header and data are the frame in front, which reads back
-        pub all-written : {after : List ℕ} {n : ℕ} → Put (dataOctets rule body) l at after n → Encoded (Count n) after
+        pub all-written : destination < 256 → source < 256 → Octets body → {after : List ℕ} {n : ℕ} → Put (dataOctets rule body) l at after n
+            → Encoded (Count n) after
         unfolding encodeFrame encodeAnswer encodeOutput
-        all-written second =
+        all-written to from octets second =
             let front = put-front (put-more first second) in
-            writes (GivesBack rule t destination source body) frame out
-            (decode-back rule t destination source body, data-back rule t destination source body) none (front .0) (front .1)
+            let back : GivesBack rule t destination source body frame
+            = (decode-back rule t destination source body, data-back rule t destination source body) in
+            let w = writes (λ s. GivesBack rule t destination source body s × WrittenFrame rule s) frame out
+            (back, written rule t destination source body to from octets few) none (front .0) (front .1) in
+            (w .0, (w .1 .0, (w .1 .1 .0, w .1 .1 .1)))

@@ -1,1 +1,2 @@
 pub mod Encodes
+pub mod Written

@@ -7,10 +7,12 @@ use mstp_frame::MstpFrameType;
 use octets::CountResult;
 ghost use mathlib.Core.Path.{_≡_};
 ghost use Rattle.mstp_encode.specs.Encode.{encodeAnswer, encodeOutput};
+ghost use Rattle.octets.specs.Output.{InFront};
+ghost use Rattle.mstp_decode.specs.Change.{WrittenFrame};
 ghost use Rattle.mstp_decode.specs.RoundTrip.{ReadsBack};
 
-// Writes a frame at the front of `out`, whose rest stays, and answers its octet count: `decode` accepts those octets and
-// gives back what was written. Or answers the first question that fails, and writes nothing.
+// Writes a frame at the front of `out`, whose rest stays, and answers its octet count: `decode` accepts those octets, gives
+// back what was written, and finds changes of them. Or answers the first question that fails, and writes nothing.
 pub fn encode(
     rule: CheckRule,
     frame_type: MstpFrameType,
@@ -22,6 +24,7 @@ pub fn encode(
     ensures { λ r. ⌜ r ≡ encodeAnswer rule «frame_type» destination source (now (body .entry)) (now (out .entry)) ⌝ }
     ensures output { λ r. ⌜ now (out .exit) ≡ encodeOutput rule «frame_type» destination source (now (body .entry)) (now (out .entry)) ⌝ }
     ensures back { λ r. ⌜ ReadsBack rule «frame_type» destination source (now (body .entry)) (now (out .exit)) r ⌝ }
+    ensures written { λ r. ⌜ InFront (WrittenFrame rule) r (now (out .exit)) ⌝ }
 {
     let n = body.len();
     if MSTP_MAX_DATA_LENGTH < n {

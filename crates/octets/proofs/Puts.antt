@@ -1,7 +1,6 @@
 -- Lists put one behind another are one list put, and what was put so far, with what is left, is all.
 -- Assumes nothing.
 use mathlib.Core.Path.{_≡_, refl, sym, ap, ap₂, subst, _∙_}
-use mathlib.Core.Bool.{true, false}
 use mathlib.Core.List.{List, [], _++_, append-assoc, append-nil}
 use Prim.Native.Nat.{ℕ, _+_, _-_, _≤_, _<_}
 use native.Mathlib.Nat.{add-zero}
@@ -90,6 +89,12 @@ unfolding atFront
 put-front {xs} {before} {after} {n} put =
     let count : n ≡ length xs = omega (arith, put .place) in
     (count, put .list ∙ front-sets [] xs before {l = before} {n = 0} refl refl (omega (arith, put .fits)))
+
+-- one that has as many elements as there are is all there is
+pub put-whole : {xs before after : List ℕ} {n : ℕ} → length xs ≡ length before → Put xs before 0 after n → after ≡ xs
+unfolding atFront
+put-whole {xs} {before} same put =
+    put-front put .1 ∙ ap (λ (l : List ℕ). xs ++ l) (drop-of-length-le before {i = length xs} (omega arith)) ∙ append-nil xs
 
 -- a loop that puts `all` from a place on: what was put so far, and what is left
 pub record Putting (all before : List ℕ) (at : ℕ) (left after : List ℕ) (here : ℕ) : Type 0 where

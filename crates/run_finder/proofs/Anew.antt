@@ -17,7 +17,7 @@ use Rattle.mstp_decode.specs.declared.MstpHeader.{MstpHeader}
 use Rattle.mstp_frame.specs.Fields.{frameType, dataLength}
 use Rattle.mstp_decode.specs.Decode.{headerOf, frameData}
 use Rattle.mstp_decode.proofs.Accepted.{accepts}
-use Rattle.mstp_decode.proofs.Answers.{decode-accepted}
+use Rattle.mstp_decode.proofs.Answers.{frame-back}
 use Rattle.mstp_decode.proofs.ReadsBack.{length-back}
 use Rattle.mstp_frame.specs.FrameType.{fromU8}
 use Rattle.mstp_encode.specs.Encode.{roomQuestion, encodeQuestions, encodeQuestion, encodeAnswer, encodeOutput}
@@ -54,7 +54,7 @@ unfolding acceptable fromU8 headerOf
 passes rule f octets e =
     let a = facts rule f octets e in
     let both = both-true (eqb (length (mstpErrors rule f)) 0) (leb (frameType f) 7) e in
-    let d = decode-accepted rule f refl (accepts rule f (a .read)) octets refl in
+    let d = frame-back rule f refl (accepts rule f (a .read)) octets refl in
     record {
       noErrors = none-is (mstpErrors rule f) (eqb-true (length (mstpErrors rule f)) 0 (both .0));
       header = headerOf f;

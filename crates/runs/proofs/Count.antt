@@ -5,12 +5,12 @@ use Prim.Native.Nat.{ℕ, suc, _+_, _≤_, _<_}
 use native.Mathlib.Omega.{arith}
 use native.Mathlib.Numerals.{add-one}
 use mathlib.Core.Bool.{Bool, true, false, cond}
-use mathlib.Core.List.{List, [], _∷_}
+use mathlib.Core.List.{List, [], _∷_, _++_}
 use lib.ListN.{length, getD, drop, drop-of-length-le}
 use lib.Seq.{drop-cons}
 use Rattle.runs.specs.Front.{count}
 
-one-at-most : (b : Bool) → cond b 1 0 ≤ 1
+pub one-at-most : (b : Bool) → cond b 1 0 ≤ 1
 one-at-most true = omega arith
 one-at-most false = omega arith
 
@@ -27,6 +27,12 @@ module _ (p : ℕ → Bool) where
   count-all [] all = refl
   count-all (x ∷ s) all =
       rw (all 0 (omega arith)) (omega (arith, count-all s (λ i h. all (suc i) (omega arith))))
+
+  -- an octet between others
+  pub count-between : (a b : List ℕ) (x : ℕ) → count p (a ++ x ∷ b) ≡ cond (p x) 1 0 + count p (a ++ b)
+  unfolding count
+  count-between [] b x = refl
+  count-between (y ∷ a) b x = omega (arith, count-between a b x)
 
   -- from place i on: one more octet, the end
   module _ (s : List ℕ) (i : ℕ) where

@@ -1,4 +1,5 @@
 pub mod Back
+pub mod Change
 pub mod Count
 pub mod Front
 pub mod Longest

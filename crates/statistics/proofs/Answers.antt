@@ -1,6 +1,6 @@
 -- What the statistics are, and what the answer promises of them.
 -- Assumes nothing.
-use mathlib.Core.Path.{_≡_, refl, ap, _∙_}
+use mathlib.Core.Path.{_≡_, ap, _∙_}
 use Prim.Native.Nat.{ℕ}
 use native.Mathlib.Omega.{arith}
 use mathlib.Core.Bool.{true, false}
@@ -8,7 +8,7 @@ use mathlib.Core.List.{List, []}
 use lib.ListN.{length, getD}
 use Rattle.octets.specs.Size.{atMost65535}
 use Rattle.octets.proofs.Parts.{Octets}
-use Rattle.octets.proofs.Questions.{passed, failed, ended, refusal, acceptance}
+use Rattle.octets.proofs.Questions.{failed, refusal}
 use Rattle.runs.specs.Longest.{longest}
 use Rattle.runs.specs.declared.Run.{Run}
 use Rattle.runs.proofs.Longest.{longest-law, only-longest}
@@ -18,6 +18,8 @@ use Rattle.statistics.specs.declared.StatisticsAnswer.{StatisticsAnswer}
 use Rattle.statistics.specs.Statistics.{byteDistribution, nullBytes, highBytes, frameStatistics}
 use Rattle.statistics.specs.Statistics.{noStatistics, calculated, refused, statisticsQuestion, statistics}
 use Rattle.statistics.specs.Laws.{Calculates, AllCounted, NullCounted, HighCounted, LongestStands}
+use Rattle.statistics.specs.Change.{OneChanged, Reached}
+use Rattle.statistics.proofs.Change.{taken, one-changed, reached}
 use Rattle.statistics.proofs.Counting.{distribution-at}
 use Rattle.statistics.proofs.Sums.{all-total, high-total}
 
@@ -35,33 +37,34 @@ module _ (s : List ℕ) where
 
   -- what the answer promises of the statistics
   abbrev Holds : FrameStatistics → Type 0
-  Holds t = AllCounted s t × (NullCounted t × (HighCounted t × LongestStands s t))
+  Holds t = AllCounted s t × (NullCounted t × (HighCounted t × (LongestStands s t × (OneChanged s t × Reached))))
 
   -- the answer, with its promises
   abbrev Answered : StatisticsAnswer → Type 0
   Answered r =
       (r ≡ statistics s)
-      × (Calculates (AllCounted s) r × (Calculates NullCounted r × (Calculates HighCounted r × Calculates (LongestStands s) r)))
+      × (Calculates (AllCounted s) r × (Calculates NullCounted r × (Calculates HighCounted r
+      × (Calculates (LongestStands s) r × (Calculates (OneChanged s) r × Reached)))))
 
   -- more octets than question 31 takes
   pub statistics-refused : atMost65535 (length s) ≡ false → {t : FrameStatistics} → t ≡ noStatistics → Answered (record { result = Refused 31; statistics = t })
   unfolding statistics statisticsQuestion
   statistics-refused h e = (
     rw e (refusal refused (calculated (frameStatistics s)) (failed 31 [] h) (λ z. omega arith)),
-    (tt, (tt, (tt, tt))),
+    (tt, (tt, (tt, (tt, (tt, reached))))),
   )
 
-  module _ (octets : Octets s) where
+  -- no more than it takes
+  module _ (octets : Octets s) (h : atMost65535 (length s) ≡ true) where
     -- the promises hold of the statistics
     holds : Holds (frameStatistics s)
     unfolding frameStatistics nullBytes
-    holds = (all-total s octets, (distribution-at s 0 (omega arith), (high-total s octets, (longest-law s, only-longest s))))
+    holds = (
+      all-total s octets,
+      (distribution-at s 0 (omega arith), (high-total s octets, ((longest-law s, only-longest s), (one-changed s h, reached)))),
+    )
 
-    -- no more than it takes
-    pub statistics-calculated : atMost65535 (length s) ≡ true → {t : FrameStatistics} → t ≡ frameStatistics s → Answered (calculated t)
-    unfolding statistics statisticsQuestion
-    statistics-calculated h {t} e =
-        let l : Holds t = rw e holds in (
-          ap calculated e ∙ acceptance refused (calculated (frameStatistics s)) (passed 31 [] h ended) refl,
-          l,
-        )
+    pub statistics-calculated : {t : FrameStatistics} → t ≡ frameStatistics s → Answered (calculated t)
+    statistics-calculated {t} e =
+        let l : Holds t = rw e holds in
+        (ap calculated e ∙ taken s h, l)

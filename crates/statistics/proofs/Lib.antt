@@ -1,3 +1,4 @@
 pub mod Answers
+pub mod Change
 pub mod Counting
 pub mod Sums

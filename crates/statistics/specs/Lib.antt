@@ -1,2 +1,3 @@
+pub mod Change
 pub mod Laws
 pub mod Statistics

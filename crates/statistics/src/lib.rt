@@ -6,6 +6,7 @@ ghost use Prim.Native.Nat.{_≤_, _<_};
 ghost use lib.ListN.{length};
 ghost use Rattle.statistics.specs.Statistics.{byteDistribution, frameStatistics, noStatistics, statistics};
 ghost use Rattle.statistics.specs.Laws.{total, Calculates, AllCounted, NullCounted, HighCounted, LongestStands};
+ghost use Rattle.statistics.specs.Change.{OneChanged, Reached};
 
 // How many octets have each value, how many are 00, how many are 80 or more, and the longest run.
 pub struct FrameStatistics {
@@ -95,13 +96,16 @@ fn frame_statistics(frame: &[u8]) -> FrameStatistics
 
 // The statistics of a frame: all counts add up to its length, that of 00 is `null_bytes`, those of 80 and more add up to
 // `high_bytes`, and `longest_run` is the longest run of one value with its start, the earliest of equals, and no other run
-// is. Or question 31, and zeros.
+// is. Or question 31, and zeros. One changed octet changes `null_bytes` and `high_bytes` by at most 1, and each longest
+// run is at most twice the other plus 1, which is reached.
 pub fn calculate_frame_statistics(frame: &[u8]) -> StatisticsAnswer
     ensures { λ r. ⌜ r ≡ statistics (now (frame .entry)) ⌝ }
     ensures counts { λ r. ⌜ Calculates (AllCounted (now (frame .entry))) r ⌝ }
     ensures null { λ r. ⌜ Calculates NullCounted r ⌝ }
     ensures high { λ r. ⌜ Calculates HighCounted r ⌝ }
     ensures longest { λ r. ⌜ Calculates (LongestStands (now (frame .entry))) r ⌝ }
+    ensures changed { λ r. ⌜ Calculates (OneChanged (now (frame .entry))) r ⌝ }
+    ensures reached { λ r. ⌜ Reached ⌝ }
 {
     if !octets::at_most_65535(frame.len()) {
         return StatisticsAnswer {

@@ -15,7 +15,7 @@ returns c =
       all-three _ _ (d .detect-patterns .ensures .0) _ (a .detected .given .1) (b .validate-frame .ensures) (t .ensures .0),
       (
         d .detect-patterns .ensures .1 .0,
-        holds-here _ _ (d .detect-patterns .ensures .0) (LongestStands _) (a .detected .given .1) (t .ensures .0) (t .ensures .1 .1 .1 .1),
+        holds-here _ _ (d .detect-patterns .ensures .0) (LongestStands _) (a .detected .given .1) (t .ensures .0) (t .ensures .1 .1 .1 .1 .0),
       ),
     )
 

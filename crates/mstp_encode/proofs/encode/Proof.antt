@@ -1,5 +1,6 @@
 -- `mstp_encode::encode` meets its contract: two questions, then the header and the data one behind the other.
 -- Assumes nothing.
+use native.Mathlib.Omega.{arith}
 use Rattle.mstp_encode.proofs.Encodes.{too-long, no-room, data-fits, all-written}
 use borrow.Author.Needs.{needs}
 use Rattle.mstp_encode.proofs.encode.Statement.{statement}
@@ -23,7 +24,7 @@ returns-3 c =
     let at = c .before .before .before .before .before .before in
     let asked = at .before .before in
     all-written _ _ _ _ _ _ (asked .before .before .if1 .left) (asked .before .frame-size .ensures .0) (asked .if2 .left) (at .put-header .ensures)
-    (c .before .before .put-data .ensures)
+    (omega arith) (omega arith) (λ i. asked .before .before .before .before .shared-slice-known .given i .fits) (c .before .before .put-data .ensures)
 
 pub encode-spec : {M : Type 1} → statement M
 encode-spec =

@@ -1,0 +1,4 @@
+pub mod Counts
+pub mod Lines
+pub mod Spaced
+pub mod Written
