@@ -115,6 +115,9 @@ impl MstpFrame {
 
     /// Reads a frame. Refused with 1 to 6.
     ///
+    /// A written frame with one octet changed is refused; under [`CheckRule::House`] it is read where destination or
+    /// source was XORed with AB.
+    ///
     /// ```
     /// use lefkanu::datalink::{mstp::MstpFrame, DataLinkError};
     /// use lefkanu::CheckRule;
