@@ -24,7 +24,7 @@ impl Rule {
         }
     }
 
-    // The narrowest changes that header check and data check don't find: 103 and 10811 under Annex G,
+    // The narrowest changes that header check and data check need not find: 103 and 10811 under Annex G,
     // AB and 14003 under the house rule.
     pub fn unfound(self) -> [u32; 2] {
         self.constants().map(|constant| 2 * constant + 1)

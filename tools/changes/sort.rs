@@ -5,16 +5,9 @@ use std::ops::Range;
 use crate::frame::{Change, Frame};
 use crate::rule::Rule;
 
-// The bits of both addresses.
-const ADDRESSES: Range<usize> = 24..40;
-
-#[derive(Clone, Copy, PartialEq)]
-pub enum Foreseen {
-    Refused,
-    Accepted,
-    // The check doesn't find it, but another question may refuse it.
-    Either,
-}
+// The bits that can change and leave a frame if its header check doesn't find it: the lowest three of
+// the type, which make another type, and those of both addresses.
+const OPEN: u64 = 0b111 << 16 | 0xFFFF << 24;
 
 // The part of a frame that is changed.
 #[derive(PartialEq)]
@@ -33,7 +26,8 @@ pub struct Sort {
     pub part: Part,
     // All odd ones in a range: their lowest bit is the first that is turned, so each change comes once.
     patterns: Range<u32>,
-    pub foreseen: fn(Rule, Change) -> Foreseen,
+    // Whether a change is accepted.
+    pub foreseen: fn(Rule, Change) -> bool,
 }
 
 impl Sort {
@@ -51,11 +45,11 @@ impl Sort {
         };
         let [header, data] = rule.unfound();
         [
-            sort("one octet", Part::Octet, 1..0x100, of_octet),
+            sort("one octet", Part::Octet, 1..0x100, of_header),
             sort("header, 1 to 7 bits", Part::Header, 1..0x80, refused),
-            sort("header, 8 bits", Part::Header, 0x81..0x100, of_eight),
+            sort("header, 8 bits", Part::Header, 0x81..0x100, of_header),
             sort("data, 1 to 16 bits", Part::Data, 1..0x10000, refused),
-            one("header", Part::Header, header, of_unfound),
+            one("header", Part::Header, header, of_header),
             one("data", Part::Data, data, accepted),
             sort("no change", Part::Nothing, 0..1, accepted),
         ]
@@ -87,41 +81,17 @@ fn width(pattern: u32) -> usize {
     (u32::BITS - pattern.leading_zeros()) as usize
 }
 
-// Whether a change has the pattern that the header check doesn't find. Annex G's has nine bits, so no
-// narrower change has it.
-fn is_unfound(rule: Rule, change: Change) -> bool {
-    change.pattern == rule.unfound()[0]
+fn refused(_: Rule, _: Change) -> bool {
+    false
 }
 
-fn refused(_: Rule, _: Change) -> Foreseen {
-    Foreseen::Refused
+fn accepted(_: Rule, _: Change) -> bool {
+    true
 }
 
-fn accepted(_: Rule, _: Change) -> Foreseen {
-    Foreseen::Accepted
-}
-
-// One octet: only an address can be changed without being found.
-fn of_octet(rule: Rule, change: Change) -> Foreseen {
-    match is_unfound(rule, change) && ADDRESSES.contains(&change.bit) {
-        true => Foreseen::Accepted,
-        false => Foreseen::Refused,
-    }
-}
-
-// Eight neighbouring bits of the header.
-fn of_eight(rule: Rule, change: Change) -> Foreseen {
-    match is_unfound(rule, change) {
-        true => Foreseen::Either,
-        false => Foreseen::Refused,
-    }
-}
-
-// What the header check doesn't find is accepted where only addresses change.
-fn of_unfound(_: Rule, change: Change) -> Foreseen {
-    let end = change.bit + width(change.pattern);
-    match ADDRESSES.start <= change.bit && end <= ADDRESSES.end {
-        true => Foreseen::Accepted,
-        false => Foreseen::Either,
-    }
+// One octet, or bits of the header: accepted only with the pattern that the header check doesn't find, and
+// only where nothing else refuses it. Annex G's pattern has nine bits, so no narrower change has it.
+fn of_header(rule: Rule, change: Change) -> bool {
+    let Change { bit, pattern } = change;
+    pattern == rule.unfound()[0] && bit < 40 && u64::from(pattern) << bit & !OPEN == 0
 }

@@ -1,7 +1,5 @@
 // What is counted of a sort of change.
 
-use crate::sort::Foreseen;
-
 pub struct Tally {
     pub tried: u64,
     pub accepted: u64,
@@ -27,18 +25,13 @@ impl Tally {
     }
 
     // Counts an answer; whether it is as foreseen.
-    pub fn count(&mut self, foreseen: Foreseen, mut accepted: bool) -> bool {
-        let wanted = match foreseen {
-            Foreseen::Refused => false,
-            Foreseen::Accepted => true,
-            Foreseen::Either => accepted,
-        };
-        let kind = usize::from(wanted);
-        if self.sabotage && self.turned[kind] == 0 && foreseen != Foreseen::Either {
+    pub fn count(&mut self, foreseen: bool, mut accepted: bool) -> bool {
+        let kind = usize::from(foreseen);
+        if self.sabotage && self.turned[kind] == 0 {
             self.turned[kind] = 1;
             accepted = !accepted;
         }
-        let right = accepted == wanted;
+        let right = accepted == foreseen;
         self.tried += 1;
         self.accepted += u64::from(accepted);
         self.wrong[kind] += u64::from(!right);
