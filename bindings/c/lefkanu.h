@@ -111,7 +111,7 @@ uint8_t lefkanu_data_table(uint8_t rule, uint16_t table[256]);
 /* Reads a frame. header: type, destination, source, header check, 1 if there is a data check else 0, data check or 0,
    place of the data in the frame, how many data octets (8 and 0 where there are none). Questions 1 to 6.
    A written frame with one octet changed is refused; under the house rule it is read where destination or source was
-   XORed with AB. */
+   XORed with 0xAB. */
 uint8_t lefkanu_mstp_decode(uint8_t rule, const uint8_t *frame, size_t frame_octets, size_t header[8]);
 
 /* Writes a frame at the front of out, whose rest stays; count: how many octets it has. Questions 7 and 8. */

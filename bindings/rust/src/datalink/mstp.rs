@@ -116,7 +116,7 @@ impl MstpFrame {
     /// Reads a frame. Refused with 1 to 6.
     ///
     /// A written frame with one octet changed is refused; under [`CheckRule::House`] it is read where destination or
-    /// source was XORed with AB.
+    /// source was XORed with 0xAB.
     ///
     /// ```
     /// use lefkanu::datalink::{mstp::MstpFrame, DataLinkError};
