@@ -17,7 +17,7 @@ use Rattle.mstp_decode.specs.declared.MstpDecoded.{MstpDecoded}
 use Rattle.mstp_decode.specs.declared.MstpDecoded.the-variants.{Frame, Refused}
 use Rattle.mstp_decode.specs.RoundTrip.{LaidOut}
 
--- a frame that can be written under a rule: the layout of a type, addresses and data, all of it octets
+-- a frame in the writer's layout under a rule: that of some type, addresses and data, all of it octets
 pub record WrittenFrame (rule : CheckRule) (frame : List ℕ) : Type 0 where
   pub frameType : MstpFrameType
   pub destination : ℕ
@@ -59,6 +59,6 @@ pub record Finds (rule : CheckRule) (before after : List ℕ) (answer : MstpDeco
   pub header-bits : Burst (headerBits rule) (checkedHeader before) (checkedHeader after) → isFrame answer ≡ false
   pub data-bits : Burst dataBits (checkedData before) (checkedData after) → isFrame answer ≡ false
 
--- of every frame that can be written
+-- of every frame in the writer's layout
 abbrev pub FindsChanges : CheckRule → List ℕ → MstpDecoded → Type 0
 FindsChanges rule after answer = (before : List ℕ) → WrittenFrame rule before → Finds rule before after answer

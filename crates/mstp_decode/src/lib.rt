@@ -74,8 +74,9 @@ fn decode_question(rule: CheckRule, frame: &[u8]) -> u8
 }
 
 // Reads a frame: its header, which written anew with the frame's data is the frame, or the first question that fails. A
-// written frame with one octet changed is read only under the house rule, and only where an address was XORed with AB; one
-// with a change confined to as many neighbouring bits as a check finds is not read.
+// written frame with one octet changed is read only under the house rule, and only where an address was XORed with AB. One
+// with a change confined to 16 neighbouring bits of the data and their check, or to 8 of the header and its check (house
+// rule: 7), is not read.
 pub fn decode(rule: CheckRule, frame: &[u8]) -> MstpDecoded
     ensures { λ r. ⌜ r ≡ decode rule (now (frame .entry)) ⌝ }
     ensures back { λ r. ⌜ WritesBack rule (now (frame .entry)) r ⌝ }

@@ -11,8 +11,9 @@ ghost use Rattle.octets.specs.Output.{InFront};
 ghost use Rattle.mstp_decode.specs.Change.{WrittenFrame};
 ghost use Rattle.mstp_decode.specs.RoundTrip.{ReadsBack};
 
-// Writes a frame at the front of `out`, whose rest stays, and answers its octet count: `decode` accepts those octets, gives
-// back what was written, and finds changes of them. Or answers the first question that fails, and writes nothing.
+// Writes a frame at the front of `out`, whose rest stays, and answers its octet count: `decode` accepts those octets and
+// gives back what was written, and what it promises of changed frames holds of them. Or answers the first question that
+// fails, and writes nothing.
 pub fn encode(
     rule: CheckRule,
     frame_type: MstpFrameType,
