@@ -21,9 +21,9 @@ timeToLiveNumbers n = 2 ∷ n ∷ 0 ∷ []
 abbrev pub noNpduNumbers : List ℕ
 noNpduNumbers = 3 ∷ 0 ∷ 0 ∷ []
 
--- the payload of an Ethernet frame of a size: place and octet count
+-- the payload of an Ethernet frame, n octets: place and octet count
 abbrev pub payloadNumbers : ℕ → List ℕ
-payloadNumbers size = 17 ∷ (size - 17) ∷ []
+payloadNumbers n = 17 ∷ n ∷ []
 
 -- a record of the log: kind, place of its first octet, octet count
 abbrev pub recordNumbers : LogRecord → List ℕ

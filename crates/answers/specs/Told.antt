@@ -26,7 +26,7 @@ use Rattle.answers.specs.Parts.{npduNumbers, timeToLiveNumbers, noNpduNu
 abbrev pub none : ℕ
 none = 0xFE
 
--- a number that names no rule, type or function
+-- a number that names no rule, type, function, form or state
 abbrev pub noCase : ℕ
 noCase = 0xFF
 
@@ -61,7 +61,7 @@ messageCarried size before (N.TimeToLive n) = timeToLiveNumbers n
 messageCarried size before N.NoNpdu = noNpduNumbers
 messageCarried size before (N.Refused q) = before
 
--- what reading an Ethernet frame of a size answers: both addresses, and its payload
+-- what reading an Ethernet frame answers: both addresses, and its payload
 abbrev pub decodedNumber : EthernetDecoded → ℕ
 decodedNumber answer = acceptNumber (answer .result)
 
@@ -71,8 +71,8 @@ decodedDestination before answer = ifAccepted before (answer .«dest_mac») (ans
 abbrev pub decodedSource : List ℕ → EthernetDecoded → List ℕ
 decodedSource before answer = ifAccepted before (answer .«src_mac») (answer .result)
 
-abbrev pub decodedPayload : ℕ → List ℕ → EthernetDecoded → List ℕ
-decodedPayload size before answer = ifAccepted before (payloadNumbers size) (answer .result)
+abbrev pub decodedPayload : List ℕ → EthernetDecoded → List ℕ
+decodedPayload before answer = ifAccepted before (payloadNumbers (answer .«payload_length»)) (answer .result)
 
 -- what the statistics answer: the distribution, and the other numbers
 abbrev pub statisticsNumber : StatisticsAnswer → ℕ

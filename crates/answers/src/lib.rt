@@ -23,7 +23,7 @@ ghost use Rattle.answers.specs.Told.{foundNumber, foundReport, recordNum
 // "None", and "start reached".
 pub const NONE: u8 = 0xFE;
 
-// A number that names no rule, type or function.
+// A number that names no rule, type, function, form or state.
 pub const NO_CASE: u8 = 0xFF;
 
 // How many octets stand from a place on in some of that size; behind their end 0.
@@ -110,10 +110,9 @@ pub fn tell_accepted(answer: AcceptResult) -> u8
     }
 }
 
-// What reading an Ethernet frame of a size answers.
+// What reading an Ethernet frame answers.
 pub fn tell_ethernet(
     answer: EthernetDecoded,
-    size: usize,
     dest_mac: &mut [u8; 6],
     src_mac: &mut [u8; 6],
     payload: &mut [usize; 2],
@@ -121,7 +120,7 @@ pub fn tell_ethernet(
     ensures { λ r. ⌜ r ≡ decodedNumber answer ⌝ }
     ensures destination { λ r. ⌜ now («dest_mac» .exit) ≡ decodedDestination (now («dest_mac» .entry)) answer ⌝ }
     ensures source { λ r. ⌜ now («src_mac» .exit) ≡ decodedSource (now («src_mac» .entry)) answer ⌝ }
-    ensures payload { λ r. ⌜ now (payload .exit) ≡ decodedPayload size (now (payload .entry)) answer ⌝ }
+    ensures payload { λ r. ⌜ now (payload .exit) ≡ decodedPayload (now (payload .entry)) answer ⌝ }
 {
     let result = answer.result;
     match result {
@@ -130,10 +129,7 @@ pub fn tell_ethernet(
             let source = answer.src_mac;
             *dest_mac = destination;
             *src_mac = source;
-            *payload = [
-                BACNET_ETHERNET_HEADER_SIZE,
-                octets_from(BACNET_ETHERNET_HEADER_SIZE, size),
-            ];
+            *payload = [BACNET_ETHERNET_HEADER_SIZE, answer.payload_length];
             0
         }
         AcceptResult::Refused(question) => question,

@@ -15,7 +15,7 @@ pub enum DataLinkError {
     Unmatched,
 }
 
-// Whether the Rust asks a question too: of MS/TP, of BVLC messages, of Ethernet.
+// Whether the Rust asks a question too: of MS/TP, of BVLC messages, of Ethernet with 82 DC.
 fn rust_asks(question: u8) -> bool
     ensures { λ r. ⌜ r ≡ rustAsks question ⌝ }
 {

@@ -8,17 +8,19 @@ use lib.ListN.{length, take, drop, replicate, length-append, length-replicate}
 use lib.Seq.{take-all}
 use Rattle.octets.specs.Put.{Put, putPlace, putOutput}
 use Rattle.octets.proofs.Puts.{put-call, put-calls, put-more, room-front, room-more}
-use Rattle.ethernet_decode.specs.Frame.{bacnetType, headerOctets, unpadded}
+use Rattle.ethernet_decode.specs.declared.EthernetForm.{EthernetForm}
+use Rattle.ethernet_decode.specs.Frame.{field, headerOctets, unpadded}
 use Rattle.ethernet_encode.specs.Frame.{padding, paddedPayload}
 
 -- the size of a header, and of a frame without padding
-module _ (d e body : List ℕ) (hd : length d ≡ 6) (he : length e ≡ 6) where
-  pub header-size : length (headerOctets bacnetType d e) ≡ 17
-  header-size = simp length-append (omega arith)
+module _ (d e : List ℕ) (hd : length d ≡ 6) (he : length e ≡ 6) where
+  pub header-size : (n : ℕ) → length (headerOctets n d e) ≡ 17
+  header-size n = simp length-append (omega arith)
 
-  pub unpadded-size : length (unpadded bacnetType d e body) ≡ 17 + length body
+  pub unpadded-size : (form : EthernetForm) (body : List ℕ) → length (unpadded form d e body) ≡ 17 + length body
   unfolding unpadded
-  unpadded-size = length-append (headerOctets bacnetType d e) body ∙ ap (λ (k : ℕ). k + length body) header-size
+  unpadded-size form body =
+      length-append (headerOctets (field form (length body)) d e) body ∙ ap (λ (k : ℕ). k + length body) (header-size (field form (length body)))
 
 -- three calls of `put` are a header
 pub header-put : (d e behind out : List ℕ) {a b n : ℕ} {l k after : List ℕ}

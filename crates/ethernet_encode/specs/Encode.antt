@@ -7,17 +7,17 @@ use lib.ListN.{length}
 use Rattle.octets.specs.Question.{Question, ask, firstNo}
 use Rattle.octets.specs.Output.{writeAnswer, writeOutput}
 use Rattle.octets.specs.declared.CountResult.{CountResult}
-use Rattle.ethernet_decode.specs.Frame.{bacnetType}
+use Rattle.ethernet_decode.specs.declared.EthernetForm.{EthernetForm}
 use Rattle.ethernet_encode.specs.Frame.{ethernetFrame}
 
 -- the questions in document 01's order: of the frame's octets and the lent output
 unfoldable pub encodeQuestions : List ℕ → List ℕ → List Question
 encodeQuestions frame out = ask 24 (leb (length frame) 1514) ∷ ask 25 (leb (length frame) (length out)) ∷ []
 
-module _ (destination source body out : List ℕ) where
-  -- the frame's octets, 82 DC after the addresses
+module _ (form : EthernetForm) (destination source body out : List ℕ) where
+  -- the frame's octets
   abbrev frame : List ℕ
-  frame = ethernetFrame bacnetType destination source body
+  frame = ethernetFrame form destination source body
 
   -- the first question that fails, or 0
   unfoldable pub encodeQuestion : ℕ

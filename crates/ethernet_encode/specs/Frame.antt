@@ -3,16 +3,17 @@
 use Prim.Native.Nat.{ℕ, _+_, _-_}
 use mathlib.Core.List.{List, _++_}
 use lib.ListN.{length, replicate}
+use Rattle.ethernet_decode.specs.declared.EthernetForm.{EthernetForm}
 use Rattle.ethernet_decode.specs.Frame.{unpadded}
 
 -- the zeros that pad n octets to 60
 abbrev pub padding : ℕ → List ℕ
 padding n = replicate (60 - n) 0
 
--- a frame: padded with zeros to 60 octets
-unfoldable pub ethernetFrame : ℕ → List ℕ → List ℕ → List ℕ → List ℕ
-ethernetFrame field destination source body =
-    unpadded field destination source body ++ padding (length (unpadded field destination source body))
+-- a frame of a form: padded with zeros to 60 octets
+unfoldable pub ethernetFrame : EthernetForm → List ℕ → List ℕ → List ℕ → List ℕ
+ethernetFrame form destination source body =
+    unpadded form destination source body ++ padding (length (unpadded form destination source body))
 
 -- a payload with the zeros that pad its frame, whose header has 17 octets
 unfoldable pub paddedPayload : List ℕ → List ℕ

@@ -1,4 +1,4 @@
--- The cases that the numbers of rules, types and functions name.
+-- The cases that the numbers of rules, types, functions and forms name.
 -- Assumes nothing.
 use mathlib.Core.Path.{_≡_}
 use Prim.Native.Nat.{ℕ, _≤_, _<_}
@@ -10,7 +10,8 @@ use Rattle.mstp_frame.specs.FrameType.{typeOf, fromU8}
 use Rattle.bip_header.specs.declared.function.BvlcFunction.{BvlcFunction}
 use Rattle.bip_header.specs.declared.function.FunctionRead.the-variants as F
 use Rattle.bip_header.specs.Function.{functionOf, tryFrom}
-use Rattle.numbers.specs.Named.{forCase, ruleOf, underRule}
+use Rattle.ethernet_decode.specs.declared.EthernetForm.{EthernetForm}
+use Rattle.numbers.specs.Named.{forCase, ruleOf, underRule, formOf, inForm}
 use Rattle.numbers.proofs.Named.{no-case, names, names-none, told}
 
 -- a number above 1 names no rule
@@ -21,6 +22,15 @@ no-rule = no-case 1 ruleOf
 pub under : {A B : Type 0} (number : ℕ) (call : CheckRule → A) (tell : A → B) (unknown : B) {rule : CheckRule} {answer : A}
     → number ≤ 1 → rule ≡ ruleOf number → answer ≡ call rule → tell answer ≡ underRule number (λ rule. tell (call rule)) unknown
 under = told 1 ruleOf
+
+-- a number above 1 names no Ethernet form
+pub no-form : {A : Type 0} (number : ℕ) (known : EthernetForm → A) (unknown : A) → 1 < number → unknown ≡ inForm number known unknown
+no-form = no-case 1 formOf
+
+-- a call in the form of a number, and what its answer is told as
+pub within-form : {A B : Type 0} (number : ℕ) (call : EthernetForm → A) (tell : A → B) (unknown : B) {form : EthernetForm} {answer : A}
+    → number ≤ 1 → form ≡ formOf number → answer ≡ call form → tell answer ≡ inForm number (λ form. tell (call form)) unknown
+within-form = told 1 formOf
 
 -- the type that a number names
 pub type-named : (number : ℕ) (type : MstpFrameType) → fromU8 number ≡ T.Known type → (number ≤ 7) × (type ≡ typeOf number)

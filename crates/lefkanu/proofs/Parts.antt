@@ -17,6 +17,7 @@ use Rattle.bip_message.specs.declared.BvlcMessage.{BvlcMessage}
 use Rattle.bip_message.specs.declared.BvlcMessage.the-variants.{Npdu, TimeToLive, NoNpdu, Refused}
 use Rattle.bip_message.specs.Message.{process, npduOf, npdu}
 use Rattle.ethernet_decode.specs.declared.EthernetDecoded.{EthernetDecoded}
+use Rattle.ethernet_decode.specs.declared.EthernetForm.{EthernetForm}
 use Rattle.ethernet_decode.specs.Decode as ethernet
 use Rattle.log_record.specs.declared.RecordRead.{RecordRead}
 use Rattle.log_record.specs.declared.RecordRead.the-variants as L
@@ -52,18 +53,18 @@ npdu-named s before = by (process s) refl
     by (Refused q) e = tt
 
 -- the payload of an Ethernet frame
-pub payload-named : (s before : List ℕ) → decodedNumber (ethernet.decode s) ≡ 0
-    → partNamed 0 (decodedPayload (length s) before (ethernet.decode s)) s ≡ ethernet.payload s
+pub payload-named : (form : EthernetForm) (s before : List ℕ) → decodedNumber (ethernet.decode form s) ≡ 0
+    → partNamed 0 (decodedPayload before (ethernet.decode form s)) s ≡ ethernet.payload form s
 unfolding ethernet.decode ethernet.payload answered
-payload-named s before e = by (ethernet.decodeQuestion s) e
+payload-named form s before e = by (ethernet.decodeQuestion form s) e
   where
     accepted : EthernetDecoded
-    accepted = ethernet.accepted (ethernet.destinationOf s) (ethernet.sourceOf s)
+    accepted = ethernet.accepted (ethernet.destinationOf s) (ethernet.sourceOf s) (ethernet.payloadLength form s)
 
     by : (q : ℕ) → decodedNumber (answered ethernet.refused q accepted) ≡ 0
-        → partNamed 0 (decodedPayload (length s) before (answered ethernet.refused q accepted)) s
-        ≡ answered (λ _. []) q (drop 17 s)
-    by zero none = rest 17 s
+        → partNamed 0 (decodedPayload before (answered ethernet.refused q accepted)) s
+        ≡ answered (λ _. []) q (take (ethernet.payloadLength form s) (drop 17 s))
+    by zero none = refl
     by (suc q) none = absurd (omega arith)
 
 -- the octets of a record

@@ -1,21 +1,21 @@
 -- The case of a number, and what stands for an answer there or where the number names no case.
 -- Assumes nothing.
 use mathlib.Core.Path.{_≡_, refl, sym, _∙_}
+use mathlib.Core.Bool.{cond}
 use Prim.Native.Nat.{ℕ, _≤_, _<_}
 use native.Mathlib.Decide.{decLe}
 use native.Mathlib.Omega.{arith}
 use borrow.Author.Tests.{eq-eqb, ne-eqb, le-leb, lt-leb}
-use Rattle.crc.specs.declared.CheckRule.{CheckRule}
-use Rattle.crc.specs.declared.CheckRule.the-variants.{AnnexG, House}
-use Rattle.numbers.specs.Named.{forCase, ruleOf}
+use lib.Dec.{eqb}
+use Rattle.numbers.specs.Named.{forCase}
 
-pub rule-0 : (number : ℕ) → number ≡ 0 → AnnexG ≡ ruleOf number
-unfolding ruleOf
-rule-0 number e = rw (eq-eqb number 0 e) refl
+-- the case of number 0, and that of the others
+module _ {A : Type 0} (zeroth other : A) (number : ℕ) where
+  pub case-0 : number ≡ 0 → zeroth ≡ cond (eqb number 0) zeroth other
+  case-0 e = rw (eq-eqb number 0 e) refl
 
-pub rule-1 : (number : ℕ) → (number ≡ 0 → ⊥) → House ≡ ruleOf number
-unfolding ruleOf
-rule-1 number h = rw (ne-eqb number 0 h) refl
+  pub case-1 : (number ≡ 0 → ⊥) → other ≡ cond (eqb number 0) zeroth other
+  case-1 h = rw (ne-eqb number 0 h) refl
 
 module _ {A B : Type 0} (last : ℕ) (caseOf : ℕ → A) (number : ℕ) (known : A → B) (unknown : B) where
   -- the number names no case

@@ -1,4 +1,4 @@
--- The numbers that callers give for rules, types and functions.
+-- The numbers that callers give for rules, types, functions and forms.
 -- Assumes nothing.
 use Prim.Native.Nat.{ℕ}
 use mathlib.Core.Bool.{cond}
@@ -9,6 +9,8 @@ use Rattle.mstp_frame.specs.declared.MstpFrameType.{MstpFrameType}
 use Rattle.mstp_frame.specs.FrameType.{typeOf}
 use Rattle.bip_header.specs.declared.function.BvlcFunction.{BvlcFunction}
 use Rattle.bip_header.specs.Function.{functionOf}
+use Rattle.ethernet_decode.specs.declared.EthernetForm.{EthernetForm}
+use Rattle.ethernet_decode.specs.declared.EthernetForm.the-variants.{EtherType, Length}
 
 -- what there is for the case of a number from 0 to the last; something else where the number names none
 unfoldable pub forCase : {A B : Type 0} → ℕ → (ℕ → A) → ℕ → (A → B) → B → B
@@ -29,3 +31,11 @@ ofType = forCase 7 typeOf
 -- for the BVLC function of a number
 abbrev pub ofFunction : {B : Type 0} → ℕ → (BvlcFunction → B) → B → B
 ofFunction = forCase 0x0C functionOf
+
+-- the Ethernet form of a number: 0 EtherType, 1 Length
+unfoldable pub formOf : ℕ → EthernetForm
+formOf number = cond (eqb number 0) EtherType Length
+
+-- in the Ethernet form of a number
+abbrev pub inForm : {B : Type 0} → ℕ → (EthernetForm → B) → B → B
+inForm = forCase 1 formOf

@@ -1,8 +1,9 @@
-// Rules and results as numbers, for callers in other languages.
+// Rules, forms and results as numbers, for callers in other languages.
 mod layout;
 
 use crc::CheckRule;
 use datalink::DataLinkError;
+use ethernet_decode::EthernetForm;
 pub use layout::StateRead;
 pub use layout::bvlc_numbers;
 pub use layout::count_numbers;
@@ -12,7 +13,7 @@ pub use layout::state_numbers;
 pub use layout::state_of;
 ghost use mathlib.Core.Path.{_≡_};
 ghost use Rattle.numbers.specs.Layout.{errorNumber};
-ghost use Rattle.numbers.specs.Named.{ruleOf};
+ghost use Rattle.numbers.specs.Named.{ruleOf, formOf};
 
 // The largest number of a rule: 0 is Annex G, 1 the house rule.
 pub const LAST_RULE: u8 = 1;
@@ -25,6 +26,19 @@ pub fn rule_of(number: u8) -> CheckRule
         return CheckRule::AnnexG;
     }
     CheckRule::House
+}
+
+// The largest number of an Ethernet form: 0 is EtherType, 1 Length.
+pub const LAST_FORM: u8 = 1;
+
+// The Ethernet form of a number, 0 or 1; above 1 the last.
+pub fn form_of(number: u8) -> EthernetForm
+    ensures { λ r. ⌜ r ≡ formOf number ⌝ }
+{
+    if number == 0 {
+        return EthernetForm::EtherType;
+    }
+    EthernetForm::Length
 }
 
 // The number of an error.

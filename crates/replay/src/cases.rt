@@ -5,6 +5,7 @@ use crate::bip_cases;
 use crate::ethernet_cases;
 use crate::mstp_cases;
 use crc::CheckRule;
+use ethernet_decode::EthernetForm;
 use octets::CountResult;
 use replay_cases::input;
 use replay_cases::print;
@@ -55,8 +56,9 @@ fn answer_to(kind: u8, rule: CheckRule, input: &[u8], size: usize) {
     match kind {
         b'B' => bip_cases::header(input),
         b'D' => print::number(crc::crc16_mstp(rule, input) as usize, 4),
-        b'E' => ethernet_cases::reading(input),
+        b'E' => ethernet_cases::reading(EthernetForm::EtherType, input),
         b'H' => mstp_cases::header_check(rule, input),
+        b'L' => ethernet_cases::reading(EthernetForm::Length, input),
         b'N' => bip_cases::npdu(input),
         b'R' => mstp_cases::reading(rule, input),
         b'V' => ethernet_cases::print_result(ethernet_decode::validate_ethernet_frame(input)),
@@ -78,7 +80,8 @@ fn writing(kind: u8, rule: CheckRule, input: &[u8], size: usize) {
 fn write(kind: u8, rule: CheckRule, input: &[u8], out: &mut [u8]) -> CountResult {
     match kind {
         b'C' => bip_cases::write(input, out),
-        b'G' => ethernet_cases::write(input, out),
+        b'G' => ethernet_cases::write(EthernetForm::EtherType, input, out),
+        b'M' => ethernet_cases::write(EthernetForm::Length, input, out),
         b'W' => mstp_cases::write(rule, input, out),
         _ => CountResult::Refused(0),
     }

@@ -1,5 +1,6 @@
 // The cases of Ethernet frames.
 use crate::answers;
+use ethernet_decode::EthernetForm;
 use octets::AcceptResult;
 use octets::CountResult;
 use replay_cases::print;
@@ -14,16 +15,16 @@ pub(crate) fn print_result(result: AcceptResult) {
     }
 }
 
-// Reading: the result, the addresses and the payload.
-pub(crate) fn reading(input: &[u8]) {
-    let decoded = ethernet_decode::decode(input);
+// Reading in a form: the result, the addresses and the payload.
+pub(crate) fn reading(form: EthernetForm, input: &[u8]) {
+    let decoded = ethernet_decode::decode(form, input);
     let result = decoded.result;
     let destination = decoded.dest_mac;
     let source = decoded.src_mac;
     print_result(result);
     answers::print_octets(&destination);
     answers::print_octets(&source);
-    answers::print_octets(ethernet_decode::payload(input));
+    answers::print_octets(ethernet_decode::payload(form, input));
 }
 
 // The six octets of an address that starts at a place.
@@ -40,10 +41,16 @@ fn address(input: &[u8], at: usize) -> [u8; 6]
     ]
 }
 
-// Writes a frame: destination, source and then the payload.
-pub(crate) fn write(input: &[u8], out: &mut [u8]) -> CountResult {
+// Writes a frame of a form: destination, source and then the payload.
+pub(crate) fn write(form: EthernetForm, input: &[u8], out: &mut [u8]) -> CountResult {
     if input.len() < 12 {
         return CountResult::Refused(0);
     }
-    ethernet_encode::encode(address(input, 0), address(input, 6), &input[12..], out)
+    ethernet_encode::encode(
+        form,
+        address(input, 0),
+        address(input, 6),
+        &input[12..],
+        out,
+    )
 }

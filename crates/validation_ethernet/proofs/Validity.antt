@@ -15,7 +15,7 @@ use Rattle.octets.proofs.Parts.{Octets}
 use Rattle.octets.proofs.Questions.{all-yes, none-fails}
 use Rattle.octets.proofs.Tests.{same-test}
 use Rattle.ethernet_decode.specs.Frame.{bacnetType}
-use Rattle.ethernet_decode.specs.Decode.{fieldOf, llcRight, headerQuestions, validateQuestions}
+use Rattle.ethernet_decode.specs.Decode.{fieldOf, llcRight, formQuestions, headerQuestions, validateQuestions}
 use Rattle.findings.proofs.Valid.{valid, valid-if}
 use Rattle.validation_ethernet.specs.Tests.{llc, errorTests, ethernetErrors}
 use Rattle.validation_ethernet.specs.Validity.{AgreesWithEthernet}
@@ -30,7 +30,7 @@ module _ (s : List ℕ) (octets : Octets s) where
       (and-assoc (eqb (getD s 14 0) 0x82) (eqb (getD s 15 0) 0x82) (eqb (getD s 16 0) 0x03))
 
   there : eqb (length (ethernetErrors s)) 0 ≡ true → eqb (firstNo (validateQuestions s)) 0 ≡ true
-  unfolding ethernetErrors errorTests validateQuestions headerQuestions
+  unfolding ethernetErrors errorTests validateQuestions headerQuestions formQuestions
   there e =
       let v = valid 17 (length s) (errorTests s) e in
       let t = v .1 in
@@ -43,7 +43,7 @@ module _ (s : List ℕ) (octets : Octets s) where
       ))
 
   back : eqb (firstNo (validateQuestions s)) 0 ≡ true → eqb (length (ethernetErrors s)) 0 ≡ true
-  unfolding ethernetErrors errorTests validateQuestions headerQuestions
+  unfolding ethernetErrors errorTests validateQuestions headerQuestions formQuestions
   back e =
       let y = all-yes (validateQuestions s) tt (eqb-true (firstNo (validateQuestions s)) 0 e) in
       valid-if 17 (length s) (errorTests s) (leb-true 17 (length s) (y .0)) (

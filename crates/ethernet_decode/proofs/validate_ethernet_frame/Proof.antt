@@ -17,7 +17,7 @@ asked : (c : tie.After-header-question) → c .header-question .result ≡ first
 unfolding validateQuestions
 asked c =
     passed 21 _ (le-leb _ _ (c .before .before .if1 .left))
-    (passed 24 _ (le-leb _ _ (c .before .if2 .left)) (c .header-question .ensures))
+    (passed 24 _ (le-leb _ 1514 (c .before .if2 .left)) (c .header-question .ensures))
 
 returns : tie.Need-returns
 unfolding validate validateQuestions

@@ -19,32 +19,34 @@ returns-2 : tie.Need-returns-2
 returns-2 c =
     let asked = c .before in
     let a = asked .before .before .before .before in
-    no-room _ _ _ _ (destination-six a) (source-six a) (asked .before .if1 .left) (asked .frame-size .ensures)
+    no-room _ _ _ _ _ (destination-six a) (source-six a) (asked .before .if1 .left) (asked .frame-size .ensures)
     (c .if2 .taken)
 
 returns : tie.Need-returns
 returns c =
     let a = c .before .before .before in
-    too-long _ _ _ _ (destination-six a) (source-six a) (c .if1 .taken)
+    too-long _ _ _ _ _ (destination-six a) (source-six a) (c .if1 .taken)
 
 put-payload-requires : tie.Need-put-payload-requires
 put-payload-requires c κs =
     let at = c .before .before .before in
-    let tested = at .before .before in
+    let named = at .before .before in
+    let tested = named .before in
     let asked = tested .before in
     let a = asked .before .before .before .before in
-    payload-fits (a .args .dest-mac) (a .args .src-mac) (a .args .body .now) (a .args .out .now) (destination-six a)
-    (source-six a) (asked .before .if1 .left) (asked .frame-size .ensures) (tested .if2 .left) (at .put-header .ensures)
+    payload-fits (a .args .form) (a .args .dest-mac) (a .args .src-mac) (a .args .body .now) (a .args .out .now) (destination-six a)
+    (source-six a) (asked .before .if1 .left) (asked .frame-size .ensures) (tested .if2 .left) (named .field .ensures) (at .put-header .ensures)
 
 returns-3 : tie.Need-returns-3
 returns-3 c =
     let sent = c .before .before in
     let at = sent .before .before .before .before in
-    let tested = at .before .before in
+    let named = at .before .before in
+    let tested = named .before in
     let asked = tested .before in
     let a = asked .before .before .before .before in
-    all-written _ _ _ _ (destination-six a) (source-six a) (asked .before .if1 .left) (asked .frame-size .ensures)
-    (tested .if2 .left) (at .put-header .ensures) (sent .put-payload .ensures)
+    all-written _ _ _ _ _ (destination-six a) (source-six a) (asked .before .if1 .left) (asked .frame-size .ensures)
+    (tested .if2 .left) (named .field .ensures) (at .put-header .ensures) (sent .put-payload .ensures)
 
 pub encode-spec : {M : Type 1} → statement M
 encode-spec =
@@ -53,6 +55,7 @@ encode-spec =
     returns
     (λ c κs. search needs)
     returns-2
+    (λ c κs. search needs)
     (λ c κs. search needs)
     put-payload-requires
     (λ c. search needs)

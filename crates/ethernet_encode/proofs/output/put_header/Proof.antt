@@ -13,7 +13,7 @@ returns c =
     let second = third .before .before .before .before .before in
     let first = second .before .before .before .before .before in
     let start = first .before .before .before .before in
-    header-put (start .args .t1) (start .args .t2) _ (start .args .out .now) (omega (arith, start .good)) (omega (arith, start .good)) refl (start .pre)
+    header-put (start .args .t2) (start .args .t3) _ (start .args .out .now) (omega (arith, start .good)) (omega (arith, start .good)) refl (start .pre)
     (first .put .ensures .0) (first .put .ensures .1) (second .put2 .ensures .0) (second .put2 .ensures .1) (third .put3 .ensures .0) (third .put3 .ensures .1)
 
 pub put-header-spec : {M : Type 1} → statement M

@@ -12,13 +12,13 @@ returns c =
     let e = c .before .before .before .before .decode .ensures .0 in
     let told = c .tell-ethernet .ensures in
     let number = told .0 ∙ ap decodedNumber e in
-    let payload = told .1 .1 .1 ∙ ap (decodedPayload _ _) e in (
+    let payload = told .1 .1 .1 ∙ ap (decodedPayload _) e in (
       number,
       (
         told .1 .0 ∙ ap (decodedDestination _) e,
         (
           told .1 .1 .0 ∙ ap (decodedSource _) e,
-          (payload, λ zero. rw payload (payload-named _ _ (sym number ∙ zero))),
+          (payload, λ zero. rw payload (payload-named _ _ _ (sym number ∙ zero))),
         ),
       ),
     )
