@@ -92,7 +92,8 @@ pub fn bad_bvlc(size: usize) -> Octets {
 
 // An Ethernet frame of so many octets, 17 or more, without padding.
 pub fn ethernet(size: usize) -> Octets {
-    ethernet::unpadded(MACS, octets(size - ethernet::BEFORE)).leak()
+    let payload = octets(size - ethernet::BEFORE);
+    ethernet::unpadded(ethernet::Form::EtherType, MACS, payload).leak()
 }
 
 // An Ethernet frame of so many octets with another type and LLC header, to a multicast address.

@@ -20,7 +20,8 @@ pub struct Function {
     // all above 4; s1 a step with a first octet, s2 with one that starts the run anew, s3 with the same
     // behind a run of 0, so with a second equal to the first, s4 with the same behind a longer run, s5
     // behind the highest count; u256 checks that use all entries of a table, by the reasons 1 Annex G's
-    // and 2 the house rule's.
+    // and 2 the house rule's; f an answer by the form of Ethernet frames, EtherType or, reason 1, Length; b
+    // what is behind the octets that a length counts, 1 nothing, 2 zeros, 3 others.
     pub answers: &'static [u8],
     pub sights: &'static str,
     pub compare: fn(&mut Tally, &mut Random),
@@ -39,6 +40,8 @@ const DEMAND_3: &str = "d1 d2";
 const STEPS: &str = "c0 c1 c2 c3 c4 c5 s1 s2 s3 s4 s5";
 const STATES: &str = "c0 c1 c2 c3 c4 c5";
 const ENTRIES: &str = "u256.1 u256.2";
+const FORMS_READ: &str = "f0 f21 f22 f23 f0.1 f21.1 f24.1 f61.1 f62.1 f23.1 b1 b2 b3";
+const FORMS_WRITTEN: &str = "f0 f24 f25 f0.1 f24.1 f25.1";
 
 // Each by its name, answers, what its results have, and comparison.
 macro_rules! functions {
@@ -82,6 +85,8 @@ pub const ALL: &[Function] = functions! {
     "padding_length" [0, NO_CASE], STATES, padding::length;
     "header_table" [0, NO_CASE], ENTRIES, check_tables::header;
     "data_table" [0, NO_CASE], ENTRIES, check_tables::data;
+    "ethernet_decode_form" [0, 21, 22, 23, 24, 61, 62, NO_CASE], FORMS_READ, ethernet::decode_form;
+    "ethernet_encode_form" [0, 24, 25, NO_CASE], FORMS_WRITTEN, ethernet::encode_form;
 };
 
 // The function that has no input: it is asked once.

@@ -1,5 +1,5 @@
 // Compares every function of the static library that has input with the Rust and with a model of
-// document 01.
+// document 01, with document 02's changes.
 // Arguments: a seed, and `sabotage` where answers are to be changed. The table goes to descriptor 3,
 // since the Rust prints to standard output when it sends a frame.
 

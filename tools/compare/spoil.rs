@@ -1,5 +1,5 @@
 // Sabotage: some answers of each function's model, of the Rust or of the library are changed, one of
-// each way that can be, and each must be counted as a difference.
+// each way that can be, in each form where there are forms, and each must be counted as a difference.
 
 use shared::model::questions::RustError;
 
@@ -38,6 +38,11 @@ impl Spoiler {
             left: WAYS.to_vec(),
             done: 0,
         }
+    }
+
+    // Leaves all ways again, for the next form of a function.
+    pub fn again(&mut self) {
+        self.left = WAYS.to_vec();
     }
 
     // Changes a call in the first way left that it allows, if it is time.

@@ -45,6 +45,13 @@ impl Tally {
         }
     }
 
+    // Begins with the next form of a function: under sabotage, it is changed in each way anew.
+    pub fn next_form(&mut self) {
+        if let Some(spoiler) = &mut self.spoiler {
+            spoiler.again();
+        }
+    }
+
     // Compares a call, counts it, and shows it if it is among the first that differ.
     pub fn compare(&mut self, mut call: Call) {
         if let Some(spoiler) = &mut self.spoiler {
@@ -87,6 +94,11 @@ impl Tally {
         if self.inputs < LEAST {
             gaps.push(format!("only {} inputs", self.inputs));
         }
+        if sights.starts_with('f') {
+            let counts = [0, 1].map(|form| (form, self.of_form(form)));
+            let few = counts.iter().filter(|(_, count)| *count < LEAST);
+            gaps.extend(few.map(|(form, count)| format!("only {count} inputs of form {form}")));
+        }
         let unseen = |answer: &&u8| self.answers[usize::from(**answer)] == 0;
         let missing = answers.iter().filter(unseen);
         gaps.extend(missing.map(|answer| format!("no answer {}", answer_text(*answer))));
@@ -100,6 +112,13 @@ impl Tally {
             false => format!("no {sight}"),
         }));
         gaps
+    }
+
+    // How many inputs had a form.
+    fn of_form(&self, form: usize) -> u64 {
+        let counts = self.sights.iter();
+        let counts = counts.filter(|((letter, _, reason), _)| (*letter, *reason) == ('f', form));
+        counts.map(|(_, count)| count).sum()
     }
 
     // The function's line of the table.

@@ -1,7 +1,7 @@
 // The cases of the analysis. The samples are analysed too.
 
 use shared::model::bvlc::message;
-use shared::model::ethernet::written as ethernet_written;
+use shared::model::ethernet::{written as ethernet_written, Form::EtherType};
 use shared::model::mstp::written;
 use shared::model::patterns::found;
 use shared::octets::{of_size, then, with};
@@ -60,7 +60,7 @@ fn good_frames(list: &mut List) {
             written(rule, TOKEN, &[]),
             message(0x01, TEXTS),
             message(0x0B, TEXTS),
-            ethernet_written(STATIONS, TEXTS),
+            ethernet_written(EtherType, STATIONS, TEXTS),
             written(rule, [0x06, SLAVE, 0x05], TEXTS),
         ];
         for octets in frames {
@@ -81,7 +81,7 @@ fn patterns_together(list: &mut List) {
 
 // Many octets, zeros at their end, of each kind and of none.
 fn long_inputs(list: &mut List) {
-    let ethernet = ethernet_written(STATIONS, TEXTS);
+    let ethernet = ethernet_written(EtherType, STATIONS, TEXTS);
     for rule in RULES {
         let token = written(rule, TOKEN, &[]);
         for front in [&[][..], &token, &[0x81, 0x0B, 0xFF, 0xFF], &ethernet] {

@@ -1,7 +1,8 @@
 // The list's Ethernet part: reading, validating and writing of frames. A case and its answer are a
 // line each:
 //
-//     E- OCTETS                    reading
+//     E- OCTETS                    reading in form EtherType
+//     L- OCTETS                    reading in form Length
 //     F DDDDDDDDDDDD SSSSSSSSSSSS PAYLOAD
 //                                    destination; source; payload
 //     EX nn 000000000000 000000000000
@@ -9,16 +10,18 @@
 //     V- OCTETS                    the file's own validator
 //     F                              content
 //     EX nn                          refused
-//     G- OCTETS                    writing of destination, source and then the payload, into an
-//                                  output that was a5
+//     G- OCTETS                    writing of destination, source and then the payload, in form
+//                                  EtherType, into an output that was a5
+//     M- OCTETS                    the same in form Length
 //     F NNNN OUTPUT                  the count; the output, and 16 octets behind it
 //     EX nn OUTPUT                   refused; the same octets
 //
 // In a case nothing stands between the words; OCTETS: see list.rs. Before an empty payload there is a
-// space too, at the line's end. X is `I`, the Rust's InvalidFrame, or `N` where it has no answer, as
-// to question 25. nn is the first of document 01's questions that fails.
+// space too, at the line's end. X is `I`, the Rust's InvalidFrame, or `N` where a question is none of
+// the Rust's: 25, 61 and 62. nn is the first question that fails. The Rust has no form Length, so the
+// answers to L and M are the model's alone.
 
-use shared::model::ethernet::{self, Addresses, Frame};
+use shared::model::ethernet::{self, Addresses, Form, Frame};
 use shared::octets::hex;
 use shared::rust;
 
@@ -39,10 +42,17 @@ pub fn pairs() -> Vec<Addresses> {
     all.map(with_all).concat()
 }
 
-// Adds the reading of some octets. Panics where the Rust reads something else.
-pub fn reading(list: &mut List, octets: &[u8]) {
-    let answer = ethernet::read(octets);
-    compare("reading", octets, rust::ethernet::read(octets), &answer);
+// Adds the reading of some octets. Panics where the Rust, which has form EtherType, reads something
+// else.
+pub fn reading(list: &mut List, form: Form, octets: &[u8]) {
+    let answer = ethernet::read(form, octets);
+    let kind = match form {
+        Form::EtherType => {
+            compare("reading", octets, rust::ethernet::read(octets), &answer);
+            'E'
+        }
+        Form::Length => 'L',
+    };
     let text = match answer {
         Ok(frame) => format!("F {}", text(&frame)),
         Err(question) => {
@@ -53,7 +63,7 @@ pub fn reading(list: &mut List, octets: &[u8]) {
             format!("{} {}", refusal(question), text(&none))
         }
     };
-    list.add(['E', '-'], octets, 0, &text);
+    list.add([kind, '-'], octets, 0, &text);
 }
 
 // A frame's three tokens.
@@ -75,22 +85,24 @@ pub fn validating(list: &mut List, octets: &[u8]) {
     list.add(['V', '-'], octets, 0, &text);
 }
 
-// Adds both.
+// Adds the reading in form EtherType and the validator's answer.
 pub fn both(list: &mut List, octets: &[u8]) {
-    reading(list, octets);
+    reading(list, Form::EtherType, octets);
     validating(list, octets);
 }
 
-// Adds the writing of addresses and payload into an output of a size. Panics where the Rust writes
-// other octets.
-pub fn writing(list: &mut List, addresses: Addresses, payload: &[u8], size: usize) {
-    let write = |room| ethernet::write(addresses, payload, room);
-    compare(
-        "writing",
-        payload,
-        rust::ethernet::write(addresses, payload),
-        &write(usize::MAX),
-    );
+// Adds the writing of addresses and payload into an output of a size. Panics where the Rust, which
+// has form EtherType, writes other octets.
+pub fn writing(list: &mut List, form: Form, addresses: Addresses, payload: &[u8], size: usize) {
+    let write = |room| ethernet::write(form, addresses, payload, room);
+    let kind = match form {
+        Form::EtherType => {
+            let rust = rust::ethernet::write(addresses, payload);
+            compare("writing", payload, rust, &write(usize::MAX));
+            'G'
+        }
+        Form::Length => 'M',
+    };
     let octets = [&addresses.concat(), payload].concat();
-    list.add(['G', '-'], &octets, size, &output(write(size), size));
+    list.add([kind, '-'], &octets, size, &output(write(size), size));
 }

@@ -1,6 +1,10 @@
-// The cases of reading and validating Ethernet frames.
+// The cases of validating Ethernet frames, and of reading them in form EtherType.
 
-use shared::model::ethernet::{unpadded, written, BEFORE};
+use shared::model::ethernet::{
+    unpadded, written,
+    Form::{EtherType, Length},
+    BEFORE,
+};
 use shared::octets::{choices, with, with_bits, with_each};
 use shared::random::Random;
 
@@ -21,7 +25,7 @@ pub fn cases(list: &mut List, random: &mut Random) {
 
 // A good frame of a size, also of one below 60, without padding.
 fn good(random: &mut Random, size: usize) -> Vec<u8> {
-    unpadded(STATIONS, &random.octets(size - BEFORE))
+    unpadded(EtherType, STATIONS, &random.octets(size - BEFORE))
 }
 
 // Every front of a good frame of 61 octets.
@@ -35,9 +39,9 @@ fn fronts(list: &mut List, random: &mut Random) {
 // A frame without payload, with each octet of type and LLC changed: for reading to every value, for
 // the validator by each bit, to 00 and to FF.
 fn single_changes(list: &mut List) {
-    let good = unpadded(STATIONS, &[]);
+    let good = unpadded(EtherType, STATIONS, &[]);
     for changed in with_each(&good, 12..BEFORE) {
-        reading(list, &changed);
+        reading(list, EtherType, &changed);
     }
     for changed in with_bits(&good, 12..BEFORE) {
         validating(list, &changed);
@@ -47,7 +51,7 @@ fn single_changes(list: &mut List) {
 // All pairs of addresses; each octet of two addresses changed.
 fn addresses(list: &mut List, random: &mut Random) {
     for addresses in pairs() {
-        both(list, &written(addresses, &random.octets(3)));
+        both(list, &written(EtherType, addresses, &random.octets(3)));
     }
     let good = good(random, 20);
     for place in 0..12 {
@@ -72,22 +76,24 @@ fn sizes(list: &mut List, random: &mut Random) {
     for size in (17..=20).chain(59..=61).chain(long) {
         both(list, &good(random, size));
     }
-    both(list, &written(STATIONS, &random.long(0xFFFF - BEFORE)));
+    both(
+        list,
+        &written(EtherType, STATIONS, &random.long(0xFFFF - BEFORE)),
+    );
 }
 
-// Frames as clause 7 has them: the count of the octets behind stands in the type's place.
+// Frames of form Length.
 fn length_fields(list: &mut List, random: &mut Random) {
     for payload in [0, 1, 3, 42, 43, 44, 100] {
-        let good = written(STATIONS, &random.octets(payload));
-        let [high, low] = (payload as u16 + 3).to_be_bytes();
-        both(list, &with(&with(&good, 12, high), 13, low));
+        let octets = random.octets(payload);
+        both(list, &written(Length, STATIONS, &octets));
     }
 }
 
 // Every choice of wrong octets in type and LLC, with too few octets, enough, and so many that only
 // few are told; and a frame one octet too long with all of them wrong: the questions' order.
 fn faults_together(list: &mut List) {
-    let long = written(STATIONS, &[0x00; 2000]);
+    let long = written(EtherType, STATIONS, &[0x00; 2000]);
     for faults in choices::<5>() {
         let mut octets = long.clone();
         for (place, fault) in (12..BEFORE).zip(faults) {

@@ -1,6 +1,6 @@
 // The cases of validating Ethernet frames by validation.rs.
 
-use shared::model::ethernet::{unpadded, written, BEFORE};
+use shared::model::ethernet::{unpadded, written, Form::EtherType, BEFORE};
 use shared::octets::{choices, of_size, with, with_bits};
 use shared::random::Random;
 
@@ -31,7 +31,7 @@ fn both(list: &mut List, octets: &[u8]) {
 
 // Every front of a good frame of 61 octets.
 fn fronts(list: &mut List, random: &mut Random) {
-    let good = written(STATIONS, &random.octets(61 - BEFORE));
+    let good = written(EtherType, STATIONS, &random.octets(61 - BEFORE));
     for count in 0..=good.len() {
         ethernet(list, &good[..count]);
     }
@@ -44,7 +44,7 @@ fn fronts(list: &mut List, random: &mut Random) {
 
 // A frame without payload, with each octet of type and LLC changed by each bit, to 00 and to FF.
 fn single_changes(list: &mut List) {
-    for changed in with_bits(&unpadded(STATIONS, &[]), 12..BEFORE) {
+    for changed in with_bits(&unpadded(EtherType, STATIONS, &[]), 12..BEFORE) {
         ethernet(list, &changed);
     }
 }
@@ -54,12 +54,12 @@ fn single_changes(list: &mut List) {
 fn addresses(list: &mut List) {
     let [one, other] = STATIONS;
     for destination in [one, [0xFF; 6]] {
-        for changed in with_bits(&unpadded([destination, other], &[]), 0..6) {
+        for changed in with_bits(&unpadded(EtherType, [destination, other], &[]), 0..6) {
             ethernet(list, &changed);
         }
     }
     for addresses in pairs() {
-        both(list, &written(addresses, &[0x01, 0x20]));
+        both(list, &written(EtherType, addresses, &[0x01, 0x20]));
     }
 }
 
@@ -69,7 +69,7 @@ fn faults_together(list: &mut List) {
     let [one, other] = STATIONS;
     for destination in [one, MULTICAST, [0xFF; 6]] {
         for [kind, llc] in choices() {
-            let mut octets = written([destination, other], &[]);
+            let mut octets = written(EtherType, [destination, other], &[]);
             octets[13] ^= u8::from(kind);
             octets[16] ^= u8::from(llc);
             for size in [16, 17, 59, 60, 61, 2001] {
@@ -82,7 +82,7 @@ fn faults_together(list: &mut List) {
 // Every choice of wrong octets in type and LLC.
 fn wrong_octets(list: &mut List) {
     for faults in choices::<5>() {
-        let mut octets = written(STATIONS, &[0x01]);
+        let mut octets = written(EtherType, STATIONS, &[0x01]);
         for (place, fault) in (12..BEFORE).zip(faults) {
             octets[place] ^= 0x80 * u8::from(fault);
         }
@@ -92,7 +92,7 @@ fn wrong_octets(list: &mut List) {
 
 // Frames in all sizes around the limits.
 fn sizes(list: &mut List) {
-    let good = written(STATIONS, &[]);
+    let good = written(EtherType, STATIONS, &[]);
     for size in FEW.into_iter().chain(MANY).chain(VERY_MANY) {
         ethernet(list, &of_size(&good, size));
     }
@@ -111,7 +111,7 @@ fn sizes(list: &mut List) {
 // Random frames, as they are and with one to three changes before the payload.
 fn random_frames(list: &mut List, random: &mut Random) {
     for _ in 0..40 {
-        let mut octets = unpadded(STATIONS, &random.fewer(21));
+        let mut octets = unpadded(EtherType, STATIONS, &random.fewer(21));
         octets[..12].copy_from_slice(&random.octets(12));
         both(list, &octets);
         random.damage(&mut octets[..BEFORE]);

@@ -2,14 +2,16 @@
 
 use std::path::Path;
 
+use shared::model::ethernet::Form;
 use shared::random::Random;
 
 use crate::check::{try_examples, RULES};
 use crate::list::{frames, List};
 use crate::{
-    analysis_cases, bip_readings, bip_writings, ethernet_readings, ethernet_validations,
-    ethernet_writings, frame_validations, ip_validations, mstp_checks, mstp_readings,
-    mstp_validations, mstp_writings, padding_cases, patterns_cases, statistics_cases,
+    analysis_cases, bip_readings, bip_writings, ethernet_lengths, ethernet_readings,
+    ethernet_validations, ethernet_writings, frame_validations, ip_validations, mstp_checks,
+    mstp_readings, mstp_validations, mstp_writings, padding_cases, patterns_cases,
+    statistics_cases,
 };
 use crate::{analysis_list, bip_list, ethernet_list, mstp_list};
 
@@ -17,6 +19,7 @@ use crate::{analysis_list, bip_list, ethernet_list, mstp_list};
 const MSTP: &str = "mstp-frames.txt";
 const BVLC: &str = "bvlc-messages.txt";
 const ETHERNET: &str = "ethernet-frames.txt";
+const LENGTHS: &str = "ethernet-length-frames.txt";
 
 // The first list: what is read and written.
 pub fn first(samples: &Path) -> List {
@@ -28,12 +31,8 @@ pub fn first(samples: &Path) -> List {
     }
     bip_readings::cases(&mut list, &mut Random::new());
     bip_writings::cases(&mut list);
-    for octets in frames(&samples.join(ETHERNET)) {
-        ethernet_list::both(&mut list, &octets);
-    }
-    let mut random = Random::new();
-    ethernet_readings::cases(&mut list, &mut random);
-    ethernet_writings::cases(&mut list, &mut random);
+    let [types, lengths] = [ETHERNET, LENGTHS].map(|name| frames(&samples.join(name)));
+    ethernet(&mut list, &types, &lengths);
     list
 }
 
@@ -48,6 +47,25 @@ fn mstp(list: &mut List, samples: &[Vec<u8>]) {
         }
         mstp_writings::cases(list, rule, &mut random);
     }
+}
+
+// The Ethernet part of the first list: form EtherType with its samples, then form Length with both
+// kinds of samples. One stream of random octets makes them, in this order.
+fn ethernet(list: &mut List, types: &[Vec<u8>], lengths: &[Vec<u8>]) {
+    let mut random = Random::new();
+    for octets in types {
+        ethernet_list::both(list, octets);
+    }
+    ethernet_readings::cases(list, &mut random);
+    ethernet_writings::cases(list, Form::EtherType, &mut random);
+    for octets in lengths {
+        ethernet_list::both(list, octets);
+    }
+    for octets in types.iter().chain(lengths) {
+        ethernet_list::reading(list, Form::Length, octets);
+    }
+    ethernet_lengths::cases(list, &mut random);
+    ethernet_writings::cases(list, Form::Length, &mut random);
 }
 
 // The second list: what is found and counted.

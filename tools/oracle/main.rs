@@ -10,6 +10,7 @@ mod bip_list;
 mod bip_readings;
 mod bip_writings;
 mod check;
+mod ethernet_lengths;
 mod ethernet_list;
 mod ethernet_readings;
 mod ethernet_validations;

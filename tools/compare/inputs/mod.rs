@@ -23,7 +23,7 @@ pub const LONGEST: [usize; 4] = [65_534, 65_535, 65_536, 65_537];
 const OF_EACH: usize = 200;
 const OF_LONGEST: usize = 12;
 
-// How often each number is tried that names no rule.
+// How often each number is tried that names no rule and no form.
 const UNNAMED: usize = 8;
 
 // What two octets at once are set to; the last two turn a bit.
@@ -36,7 +36,7 @@ pub type Make = fn(&mut Random) -> Vec<u8>;
 // Takes an input.
 pub type Ask<'a> = &'a mut dyn FnMut(&mut Random, &[u8]);
 
-// Takes an input and a number that names a rule or none.
+// Takes an input and a number that names a rule or a form, or none.
 pub type AskUnder<'a> = &'a mut dyn FnMut(&mut Random, u8, &[u8]);
 
 // What inputs of one kind are made from.
@@ -77,7 +77,7 @@ impl Octets {
         self.unnamed(random, ask);
     }
 
-    // Asks some inputs under each number that names no rule.
+    // Asks some inputs under each number that names no rule and no form.
     pub fn unnamed(&self, random: &mut Random, ask: AskUnder) {
         for rule in 2..=255 {
             for _ in 0..UNNAMED {
