@@ -4,12 +4,16 @@
    written to overlaps no other; nobody else writes to any of it meanwhile. A pointer with a size in brackets points to
    exactly so many.
 
-   Answers: 0 where there is a result, and then it stands in the lent memory. Else the number of the first of document
-   01's questions that fails, LEFKANU_NONE, or, before any question is asked, LEFKANU_NO_CASE where a number names no rule,
-   type, function or state; then nothing was written. Only lefkanu_layout_version answers something else.
+   Answers: 0 where there is a result, and then it stands in the lent memory. Else the number of the first question that
+   fails (they are listed below), LEFKANU_NONE, or, before any question is asked, LEFKANU_NO_CASE where a number names no
+   rule, form, type, function or state; then nothing was written. Only lefkanu_layout_version answers something else.
 
    Rules: LEFKANU_ANNEX_G or LEFKANU_HOUSE, whose octets are those of bacnet-rs. The rule decides the check octets, and
    one warning of the validators.
+
+   Forms of an Ethernet frame: what octets 12 and 13 have. LEFKANU_FORM_ETHER_TYPE: 82 DC, as in bacnet-rs.
+   LEFKANU_FORM_LENGTH: the length field of clause 7, which is the count of LLC and payload octets (payload plus 3), high
+   octet first. No frame has both forms.
 
    Layout: how many numbers a caller lends by each pointer, and which number stands where. Its version is raised with
    each change. LEFKANU_LAYOUT_VERSION is the one that a program is compiled for, and lefkanu_layout_version answers that
@@ -35,6 +39,10 @@ uint32_t lefkanu_layout_version(void);
 /* Rules. */
 #define LEFKANU_ANNEX_G 0
 #define LEFKANU_HOUSE 1
+
+/* Forms of an Ethernet frame. */
+#define LEFKANU_FORM_ETHER_TYPE 0
+#define LEFKANU_FORM_LENGTH 1
 
 /* The questions in words. docs/QUESTIONS.md says who asks which, and in which order. Octet values and BVLC functions
    are hexadecimal, all else is decimal.
@@ -63,6 +71,8 @@ uint32_t lefkanu_layout_version(void);
    23  82 82 03 at octets 14 to 16?
    24  at most 1514 octets?
    25  does the frame fit the lent output?
+   61  length field 3 to 1500?
+   62  at least that many octets behind octet 13?
 
    Statistics, patterns, finder, whole reading:
    31  at most 65,535 octets?
@@ -79,7 +89,7 @@ uint32_t lefkanu_layout_version(void);
 
    Answers that are no question:
    FE  LEFKANU_NONE: the finder's "none", the log's "start reached"
-   FF  LEFKANU_NO_CASE: a number names no rule, frame type, function or state */
+   FF  LEFKANU_NO_CASE: a number names no rule, form, frame type, function or state */
 #define LEFKANU_NONE 0xFE
 #define LEFKANU_NO_CASE 0xFF
 
@@ -135,28 +145,46 @@ uint8_t lefkanu_process_bvlc_message(const uint8_t *message, size_t message_octe
 
 /* Ethernet frames. */
 
-/* Reads a frame: both addresses; payload: its place in the frame, how many octets, padding among them. Questions 21 to
-   23. */
+/* Reads a frame that has 82 DC: both addresses; payload: its place in the frame, how many octets, padding among them.
+   Questions 21 to 23. */
 uint8_t lefkanu_ethernet_decode(const uint8_t *frame, size_t frame_octets, uint8_t dest_mac[6], uint8_t src_mac[6],
                                 size_t payload[2]);
 
-/* The validator of ethernet.rs: 0 where it accepts. Questions 21, 24, 22 and 23. */
+/* Reads a frame of a form. LEFKANU_FORM_ETHER_TYPE: as lefkanu_ethernet_decode does. LEFKANU_FORM_LENGTH: both
+   addresses; payload: its place in the frame, how many octets, which is the length field less 3; what is behind them is
+   ignored, whatever it is. Questions 21, 24, 61, 62 and 23. */
+uint8_t lefkanu_ethernet_decode_form(uint8_t form, const uint8_t *frame, size_t frame_octets, uint8_t dest_mac[6],
+                                     uint8_t src_mac[6], size_t payload[2]);
+
+/* The validator of ethernet.rs: 0 where it accepts. A frame of the form LEFKANU_FORM_LENGTH is refused. Questions 21,
+   24, 22 and 23. */
 uint8_t lefkanu_ethernet_validate(const uint8_t *frame, size_t frame_octets);
 
-/* Writes a frame at the front of out, whose rest stays; count: how many octets it has. Questions 24 and 25. */
+/* Writes a frame that has 82 DC at the front of out, whose rest stays: zeros after the payload up to 60 octets; count:
+   how many octets it has. Questions 24 and 25. */
 uint8_t lefkanu_ethernet_encode(const uint8_t dest_mac[6], const uint8_t src_mac[6], const uint8_t *payload,
                                 size_t payload_octets, uint8_t *out, size_t out_octets, size_t *count);
+
+/* Writes a frame of a form. LEFKANU_FORM_ETHER_TYPE: as lefkanu_ethernet_encode does. LEFKANU_FORM_LENGTH: the same,
+   but with payload_octets + 3 at octets 12 and 13; what is read back is the payload alone, without the zeros. Questions
+   24 and 25. */
+uint8_t lefkanu_ethernet_encode_form(uint8_t form, const uint8_t dest_mac[6], const uint8_t src_mac[6],
+                                     const uint8_t *payload, size_t payload_octets, uint8_t *out, size_t out_octets,
+                                     size_t *count);
 
 /* The validators of validation.rs. result: 1 if valid else 0, link (0 none, 1 BACnet/IP, 2 Ethernet, 3 MS/TP), size, how
    many errors, how many warnings, then seven entries for errors and two for warnings, each a kind and two numbers; an
    unused entry is all 0. docs/QUESTIONS.md has the kinds and their numbers. Warning 3, reason 2: a master sends to a
-   slave, and the frame is not a test request (type 3) nor, under Annex G, a data frame (type 5 or 6). */
+   slave, and the frame is not a test request (type 3) nor, under Annex G, a data frame (type 5 or 6). Of Ethernet
+   frames lefkanu_validate_ethernet_frame knows those with 82 DC: in one of the form LEFKANU_FORM_LENGTH it finds error 7,
+   reason 2. */
 #define LEFKANU_RESULT_NUMBERS 32
 uint8_t lefkanu_validate_mstp_frame(uint8_t rule, const uint8_t *frame, size_t frame_octets, size_t result[32]);
 void lefkanu_validate_bacnet_ip_frame(const uint8_t *message, size_t message_octets, size_t result[32]);
 void lefkanu_validate_ethernet_frame(const uint8_t *frame, size_t frame_octets, size_t result[32]);
 
-/* By the validator of the link that the octets tell. */
+/* By the validator of the link that the octets tell. Of Ethernet frames they tell those with 82 DC: one of the form
+   LEFKANU_FORM_LENGTH has link 0 and error 7, reason 4, or is taken for MS/TP or BACnet/IP where it begins 55 FF or 81. */
 uint8_t lefkanu_validate_frame(uint8_t rule, const uint8_t *frame, size_t frame_octets, size_t result[32]);
 
 /* Statistics: how many octets have each value. counts: how many are 00, how many 80 or more, and the longest run of one

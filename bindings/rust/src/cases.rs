@@ -50,6 +50,17 @@ impl MstpFrameType {
     }
 }
 
+/// What octets 12 and 13 of an Ethernet frame have. No frame is read in both forms.
+#[derive(Debug, Clone, Copy, PartialEq, Eq, Hash)]
+#[repr(u8)]
+pub enum EthernetForm {
+    /// The form of bacnet-rs: 82 DC. Padding cannot be told from the payload.
+    EtherType = 0,
+    /// The form of clause 7 of ANSI/ASHRAE 135: the length field, which is the count of LLC and payload octets (payload
+    /// plus 3), high octet first.
+    Length = 1,
+}
+
 /// What a message is for.
 #[derive(Debug, Clone, Copy, PartialEq, Eq, Hash)]
 #[repr(u8)]

@@ -57,6 +57,8 @@ pub type Result<T> = std::result::Result<T, DataLinkError>;
 /// | 23 | 82 82 03 at octets 14 to 16? |
 /// | 24 | at most 1514 octets? |
 /// | 25 | does the frame fit the lent output? |
+/// | 61 | length field 3 to 1500? |
+/// | 62 | at least that many octets behind octet 13? |
 ///
 /// Statistics, patterns, finder, whole reading:
 ///
@@ -83,14 +85,15 @@ pub type Result<T> = std::result::Result<T, DataLinkError>;
 /// | answer | name | what it says |
 /// |---|---|---|
 /// | FE | `LEFKANU_NONE` | the finder's "none", the log's "start reached" |
-/// | FF | `LEFKANU_NO_CASE` | a number names no rule, frame type, function or state |
+/// | FF | `LEFKANU_NO_CASE` | a number names no rule, form, frame type, function or state |
 #[derive(Debug, Clone, Copy, PartialEq, Eq, Hash)]
 pub enum DataLinkError {
     /// Octets that are no such frame or message, or too many to be written.
     InvalidFrame(u8),
     /// A check octet is wrong.
     CrcError(u8),
-    /// A question that bacnet-rs does not ask: room in a lent output, lengths and places, the log.
+    /// A question that bacnet-rs does not ask: room in a lent output, the length field of an Ethernet frame, lengths
+    /// and places, the log.
     Refused(u8),
 }
 

@@ -81,9 +81,29 @@ extern "C" {
         payload: *mut [usize; 2],
     ) -> u8;
 
+    pub fn lefkanu_ethernet_decode_form(
+        form: u8,
+        frame: *const u8,
+        frame_octets: usize,
+        dest_mac: *mut [u8; 6],
+        src_mac: *mut [u8; 6],
+        payload: *mut [usize; 2],
+    ) -> u8;
+
     pub fn lefkanu_ethernet_validate(frame: *const u8, frame_octets: usize) -> u8;
 
     pub fn lefkanu_ethernet_encode(
+        dest_mac: *const [u8; 6],
+        src_mac: *const [u8; 6],
+        payload: *const u8,
+        payload_octets: usize,
+        out: *mut u8,
+        out_octets: usize,
+        count: *mut usize,
+    ) -> u8;
+
+    pub fn lefkanu_ethernet_encode_form(
+        form: u8,
         dest_mac: *const [u8; 6],
         src_mac: *const [u8; 6],
         payload: *const u8,

@@ -25,6 +25,8 @@ pub(crate) fn text(question: u8) -> Option<&'static str> {
         23 => "82 82 03 at octets 14 to 16?",
         24 => "at most 1514 octets?",
         25 => "does the frame fit the lent output?",
+        61 => "length field 3 to 1500?",
+        62 => "at least that many octets behind octet 13?",
         // Statistics, patterns, finder.
         31 => "at most 65,535 octets?",
         32 => "do all entries fit the lent list?",

@@ -1,4 +1,4 @@
-//! The only place with unsafe code: a safe form of each function of the library.
+//! The only place with unsafe code: a safe function for each one of the library.
 //!
 //! What a caller of the library has to keep, and who keeps it here:
 //! - a pointer comes with its length: both come from one slice, or the pointer is to an array of the size declared;
@@ -7,15 +7,16 @@
 //!   a local; the rest is behind `&`;
 //! - the library has the layout that `ffi` declares: `same_layout` asks before the first call.
 //!
-//! The answer FF, for a number that names no rule, type, function or state, does not come: the numbers are those of the
-//! cases of `CheckRule` (0, 1), `MstpFrameType` (0 to 7) and `BvlcFunction` (00 to 0C), and these are all named; those
-//! of a state are made from a `bool` (0, 1), a `u8` (0 to 255) and a `usize`, and all of these are states.
+//! The answer FF, for a number that names no rule, form, type, function or state, does not come: the numbers are those
+//! of the cases of `CheckRule` (0, 1), `EthernetForm` (0, 1), `MstpFrameType` (0 to 7) and `BvlcFunction` (00 to 0C),
+//! and these are all named; those of a state are made from a `bool` (0, 1), a `u8` (0 to 255) and a `usize`, and all of
+//! these are states.
 //!
 //! Places and counts that are answered lie within the caller's octets.
 
 use std::sync::OnceLock;
 
-use crate::cases::{BvlcFunction, CheckRule, MstpFrameType, RecordKind};
+use crate::cases::{BvlcFunction, CheckRule, EthernetForm, MstpFrameType, RecordKind};
 use crate::error::{DataLinkError, Result};
 use crate::ffi;
 
@@ -216,6 +217,26 @@ pub(crate) fn ethernet_decode(frame: &[u8]) -> Result<([u8; 6], [u8; 6], [usize;
     answered(answer, (dest_mac, src_mac, payload))
 }
 
+pub(crate) fn ethernet_decode_form(
+    form: EthernetForm,
+    frame: &[u8],
+) -> Result<([u8; 6], [u8; 6], [usize; 2])> {
+    same_layout();
+    let (mut dest_mac, mut src_mac, mut payload) = ([0; 6], [0; 6], [0; 2]);
+    // SAFETY: pointer and length are of `frame`; the others are three locals of six, six and two.
+    let answer = unsafe {
+        ffi::lefkanu_ethernet_decode_form(
+            form as u8,
+            frame.as_ptr(),
+            frame.len(),
+            &mut dest_mac,
+            &mut src_mac,
+            &mut payload,
+        )
+    };
+    answered(answer, (dest_mac, src_mac, payload))
+}
+
 pub(crate) fn ethernet_validate(frame: &[u8]) -> Result<()> {
     same_layout();
     // SAFETY: pointer and length are of `frame`.
@@ -235,6 +256,32 @@ pub(crate) fn ethernet_encode(
     // `count` is a local.
     let answer = unsafe {
         ffi::lefkanu_ethernet_encode(
+            dest_mac,
+            src_mac,
+            payload.as_ptr(),
+            payload.len(),
+            out.as_mut_ptr(),
+            out.len(),
+            &mut count,
+        )
+    };
+    answered(answer, count)
+}
+
+pub(crate) fn ethernet_encode_form(
+    form: EthernetForm,
+    dest_mac: &[u8; 6],
+    src_mac: &[u8; 6],
+    payload: &[u8],
+    out: &mut [u8],
+) -> Result<usize> {
+    same_layout();
+    let mut count = 0;
+    // SAFETY: the addresses have six octets; pointers and lengths are of `payload` and of `out`, which is lent alone;
+    // `count` is a local.
+    let answer = unsafe {
+        ffi::lefkanu_ethernet_encode_form(
+            form as u8,
             dest_mac,
             src_mac,
             payload.as_ptr(),

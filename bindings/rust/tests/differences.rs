@@ -4,7 +4,7 @@ mod common;
 
 use common::{octets, with_zeros, RULES};
 use lefkanu::datalink::bip::{npdu, process_bvlc_message, BvlcFunction, BvlcHeader, BvlcMessage};
-use lefkanu::datalink::ethernet::{self, EthernetFrame};
+use lefkanu::datalink::ethernet::{self, EthernetForm, EthernetFrame};
 use lefkanu::datalink::mstp::{
     self, calculate_header_crc, decode_header, MstpFrame, MstpFrameType,
 };
@@ -72,12 +72,43 @@ fn ethernet_type_where_clause_7_has_a_length() {
     assert_eq!(EthernetFrame::decode(&frame).unwrap().payload, []);
     let clause_7 = [&addresses[..], &octets("00 03 82 82 03")].concat();
     assert_eq!(EthernetFrame::decode(&clause_7), Err(InvalidFrame(22)));
+    // Only where the caller names the form.
+    let read = EthernetFrame::decode_form(EthernetForm::Length, &clause_7).unwrap();
+    assert_eq!((read.ether_type, read.payload), (3, vec![]));
+    let refused = EthernetFrame::decode_form(EthernetForm::Length, &frame);
+    assert_eq!(refused, Err(Refused(61)));
+}
+
+#[test]
+fn the_length_of_an_ethernet_frame() {
+    for (five, refusal) in [
+        ("00 02 82 82 03", Refused(61)),
+        ("05 DD 82 82 03", Refused(61)),
+        ("00 04 82 82 03", Refused(62)),
+    ] {
+        let frame = [&[0x11; 12][..], &octets(five)].concat();
+        let refused = EthernetFrame::decode_form(EthernetForm::Length, &frame);
+        assert_eq!(refused, Err(refusal));
+    }
+    // What is behind the counted octets is ignored.
+    let frame = [&[0x11; 12][..], &octets("00 03 82 82 03 FF")].concat();
+    let read = EthernetFrame::decode_form(EthernetForm::Length, &frame).unwrap();
+    assert_eq!(read.payload, []);
+    // In this form reading asks for the largest size.
+    let mut frame = [&[0x11; 12][..], &octets("00 03 82 82 03")].concat();
+    frame.resize(1515, 0);
+    let refused = EthernetFrame::decode_form(EthernetForm::Length, &frame);
+    assert_eq!(refused, Err(InvalidFrame(24)));
 }
 
 #[test]
 fn padding_stays_in_the_payload() {
     let octets = EthernetFrame::new([1; 6], [2; 6], vec![]).encode().unwrap();
     assert_eq!(EthernetFrame::decode(&octets).unwrap().payload, [0; 43]);
+    let frame = EthernetFrame::new([1; 6], [2; 6], vec![]);
+    let octets = frame.encode_form(EthernetForm::Length).unwrap();
+    let read = EthernetFrame::decode_form(EthernetForm::Length, &octets).unwrap();
+    assert_eq!((octets.len(), read.payload), (60, vec![]));
 }
 
 #[test]
@@ -318,6 +349,9 @@ fn fields_that_encode_ignores() {
         (other_llc, "82 DC AA AA 03", InvalidFrame(23)),
     ] {
         assert_eq!(frame.encode(), good.encode());
+        for form in [EthernetForm::EtherType, EthernetForm::Length] {
+            assert_eq!(frame.encode_form(form), good.encode_form(form));
+        }
         let mut octets_written = good.encode().unwrap();
         octets_written[12..17].copy_from_slice(&octets(damaged));
         assert_eq!(EthernetFrame::decode(&octets_written), Err(refusal));

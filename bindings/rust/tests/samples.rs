@@ -4,12 +4,12 @@ mod common;
 
 use common::{file, octets, sample, text};
 use lefkanu::datalink::bip::{process_bvlc_message, BvlcMessage};
-use lefkanu::datalink::ethernet::EthernetFrame;
+use lefkanu::datalink::ethernet::{EthernetForm, EthernetFrame};
 use lefkanu::datalink::mstp::MstpFrame;
 use lefkanu::datalink::validation::{
     validate_bacnet_ip_frame, validate_ethernet_frame, validate_mstp_frame,
 };
-use lefkanu::datalink::DataLinkError::{self, CrcError, InvalidFrame};
+use lefkanu::datalink::DataLinkError::{self, CrcError, InvalidFrame, Refused};
 use lefkanu::finder::count_frames;
 use lefkanu::log::{RecordKind, Records};
 use lefkanu::CheckRule::{self, AnnexG, House};
@@ -116,6 +116,58 @@ fn ethernet_frames() {
         .map(|frame| EthernetFrame::decode(frame).map(|read| read.payload))
         .collect();
     assert_eq!(payloads, expected);
+}
+
+#[test]
+fn ethernet_frames_with_a_length() {
+    let frames = sample("samples/ethernet-length-frames.txt");
+    // What is counted, or the refusal.
+    let expected = [
+        Ok(8),
+        Ok(20),
+        Ok(13),
+        Ok(19),
+        Ok(19),
+        Ok(19),
+        Ok(36),
+        Ok(1497),
+        Ok(0),
+        Ok(0),
+        Err(Refused(61)),
+        Err(Refused(61)),
+        Err(Refused(62)),
+        Err(Refused(62)),
+        Err(InvalidFrame(23)),
+        Err(InvalidFrame(23)),
+        Err(Refused(61)),
+        Err(InvalidFrame(21)),
+        Err(InvalidFrame(24)),
+    ];
+    assert_eq!(frames.len(), expected.len());
+    let read = |frame: &[u8]| EthernetFrame::decode_form(EthernetForm::Length, frame);
+    for (frame, expected) in frames.iter().zip(expected) {
+        let payload = read(frame).map(|read| read.payload);
+        assert_eq!(
+            payload,
+            expected.map(|count| frame[17..17 + count].to_vec())
+        );
+    }
+    for (place, npdu) in [
+        (0, WHO_IS),
+        (2, REQUEST),
+        (3, ANSWER),
+        (4, ANSWER),
+        (5, ANSWER),
+    ] {
+        assert_eq!(read(&frames[place]).unwrap().payload, octets(npdu));
+    }
+    // What is padded to 60 octets with zeros, or has more, is written the same.
+    for place in [0, 1, 2, 3, 6, 7, 9] {
+        let written = read(&frames[place])
+            .unwrap()
+            .encode_form(EthernetForm::Length);
+        assert_eq!(written.as_ref(), Ok(&frames[place]));
+    }
 }
 
 /// What `buslog` prints for a log.

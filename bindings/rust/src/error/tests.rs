@@ -54,7 +54,7 @@ fn words_of_the_page() {
     for (_, question, text) in questions_of_the_page() {
         assert_eq!(words.insert(question, text), None, "question {question}");
     }
-    assert!(words.len() >= 28);
+    assert!(words.len() >= 30);
     for question in 0..=0xFF {
         let words = words.get(&question).copied();
         assert_eq!(questions::text(question), words, "question {question}");
@@ -98,6 +98,11 @@ fn errors_in_words() {
             "Refused (question 44: that many octets before the trailer?)",
         ),
         (45, "Refused (question 45)"),
+        (61, "Refused (question 61: length field 3 to 1500?)"),
+        (
+            62,
+            "Refused (question 62: at least that many octets behind octet 13?)",
+        ),
     ] {
         assert_eq!(data_link_error(question).to_string(), words);
     }

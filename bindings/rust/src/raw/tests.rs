@@ -8,6 +8,9 @@ use crate::ffi::*;
 const ANNEX_G: u8 = 0;
 const HOUSE: u8 = 1;
 
+const ETHER_TYPE: u8 = 0;
+const LENGTH: u8 = 1;
+
 // What lent memory is filled with.
 const OCTET: u8 = 0xA5;
 const WORD: u32 = 0xA5A5_A5A5;
@@ -18,6 +21,7 @@ const ANSWER: [u8; 13] = [
     0x55, 0xFF, 0x06, 0x05, 0x10, 0x00, 0x03, 0xDA, 0x01, 0x22, 0x30, 0x10, 0xBD,
 ];
 const MAC: [u8; 6] = [0x66, 0x77, 0x88, 0x99, 0xAA, 0xBB];
+const SOURCE: [u8; 6] = [0x11; 6];
 
 /// Some octets with one of them changed.
 fn changed<const N: usize>(mut octets: [u8; N], place: usize, octet: u8) -> [u8; N] {
@@ -57,6 +61,79 @@ fn encode(rule: u8, frame_type: u8, data: &[u8], room: usize) -> (u8, Vec<u8>, u
             5,
             data.as_ptr(),
             data.len(),
+            out.as_mut_ptr(),
+            out.len(),
+            &mut count,
+        )
+    };
+    (answer, buffer, count)
+}
+
+/// What reading of an Ethernet frame lends: both addresses, place and count of the payload.
+type LentForReading = ([u8; 6], [u8; 6], [usize; 2]);
+
+const UNTOUCHED: LentForReading = ([OCTET; 6], [OCTET; 6], [NUMBER; 2]);
+
+fn decode_type(frame: &[u8]) -> (u8, LentForReading) {
+    let (mut dest_mac, mut src_mac, mut payload) = UNTOUCHED;
+    let answer = unsafe {
+        lefkanu_ethernet_decode(
+            frame.as_ptr(),
+            frame.len(),
+            &mut dest_mac,
+            &mut src_mac,
+            &mut payload,
+        )
+    };
+    (answer, (dest_mac, src_mac, payload))
+}
+
+fn decode_form(form: u8, frame: &[u8]) -> (u8, LentForReading) {
+    let (mut dest_mac, mut src_mac, mut payload) = UNTOUCHED;
+    let answer = unsafe {
+        lefkanu_ethernet_decode_form(
+            form,
+            frame.as_ptr(),
+            frame.len(),
+            &mut dest_mac,
+            &mut src_mac,
+            &mut payload,
+        )
+    };
+    (answer, (dest_mac, src_mac, payload))
+}
+
+/// Lends the middle of a buffer, and gives the whole.
+fn encode_type(payload: &[u8], room: usize) -> (u8, Vec<u8>, usize) {
+    let mut buffer = vec![OCTET; room + 32];
+    let out = &mut buffer[16..16 + room];
+    let mut count = NUMBER;
+    let answer = unsafe {
+        lefkanu_ethernet_encode(
+            &MAC,
+            &SOURCE,
+            payload.as_ptr(),
+            payload.len(),
+            out.as_mut_ptr(),
+            out.len(),
+            &mut count,
+        )
+    };
+    (answer, buffer, count)
+}
+
+/// Lends the middle of a buffer, and gives the whole.
+fn encode_form(form: u8, payload: &[u8], room: usize) -> (u8, Vec<u8>, usize) {
+    let mut buffer = vec![OCTET; room + 32];
+    let out = &mut buffer[16..16 + room];
+    let mut count = NUMBER;
+    let answer = unsafe {
+        lefkanu_ethernet_encode_form(
+            form,
+            &MAC,
+            &SOURCE,
+            payload.as_ptr(),
+            payload.len(),
             out.as_mut_ptr(),
             out.len(),
             &mut count,
@@ -287,63 +364,142 @@ fn process_bvlc_message() {
     }
 }
 
+/// A frame: the addresses, five octets, then so many of one value.
+fn ethernet(five: [u8; 5], octet: u8, more: usize) -> Vec<u8> {
+    [&MAC[..], &SOURCE, &five, &vec![octet; more]].concat()
+}
+
 #[test]
 fn ethernet_decode() {
-    let frame = [&MAC[..], &[0x11; 6], &[0x82, 0xDC, 0x82, 0x82, 0x03, 0x01]].concat();
-    let other_type = [&frame[..12], &[0x00, 0x04, 0x82, 0x82, 0x03]].concat();
-    let other_llc = [&frame[..12], &[0x82, 0xDC, 0x82, 0x82, 0xE3]].concat();
-    let untouched = ([OCTET; 6], [OCTET; 6], [NUMBER; 2]);
+    let five = [0x82, 0xDC, 0x82, 0x82, 0x03];
+    let read = |count| (MAC, SOURCE, [17, count]);
     for (answer, frame, expected) in [
-        (0, &frame[..], (MAC, [0x11; 6], [17, 1])),
-        (21, &frame[..16], untouched),
-        (22, &other_type, untouched),
-        (23, &other_llc, untouched),
+        (0, ethernet(five, 0x01, 1), read(1)),
+        (0, ethernet(five, 0x01, 0), read(0)),
+        (21, ethernet(five, 0, 0)[..16].to_vec(), UNTOUCHED),
+        (21, vec![], UNTOUCHED),
+        (22, ethernet(changed(five, 0, 0x00), 0, 1), UNTOUCHED),
+        (
+            22,
+            ethernet([0x00, 0x04, 0x82, 0x82, 0x03], 0, 1),
+            UNTOUCHED,
+        ),
+        (
+            22,
+            ethernet([0x00, 0x04, 0x82, 0x82, 0xE3], 0, 1),
+            UNTOUCHED,
+        ),
+        (23, ethernet(changed(five, 4, 0xE3), 0, 1), UNTOUCHED),
     ] {
-        let (mut dest_mac, mut src_mac, mut payload) = untouched;
-        let answered = unsafe {
-            lefkanu_ethernet_decode(
-                frame.as_ptr(),
-                frame.len(),
-                &mut dest_mac,
-                &mut src_mac,
-                &mut payload,
-            )
-        };
-        assert_eq!(answered, answer);
-        assert_eq!((dest_mac, src_mac, payload), expected);
+        assert_eq!(decode_type(&frame), (answer, expected));
+        assert_eq!(decode_form(ETHER_TYPE, &frame), (answer, expected));
         let valid = unsafe { lefkanu_ethernet_validate(frame.as_ptr(), frame.len()) };
         assert_eq!(valid, answer);
+    }
+    // Reading does not ask question 24.
+    let long = ethernet(five, 0x01, 1498);
+    assert_eq!(decode_type(&long), (0, read(1498)));
+    assert_eq!(decode_form(ETHER_TYPE, &long), (0, read(1498)));
+}
+
+#[test]
+fn ethernet_decode_length() {
+    let llc = |high, low| [high, low, 0x82, 0x82, 0x03];
+    for (frame, count) in [
+        // All that is there, nothing, the most.
+        (ethernet(llc(0, 3), 0, 0), 0),
+        (ethernet(llc(0, 4), 0x01, 1), 1),
+        (ethernet(llc(0x05, 0xDC), 0x01, 1497), 1497),
+        // High octet first.
+        (ethernet(llc(0x00, 0xFF), 0x01, 252), 252),
+        (ethernet(llc(0x01, 0x02), 0x01, 255), 255),
+        // What is behind the payload is ignored.
+        (ethernet(llc(0, 3), 0x00, 43), 0),
+        (ethernet(llc(0, 4), 0xFF, 2), 1),
+        (ethernet(llc(0, 3), 0xFF, 1497), 0),
+        (ethernet(llc(0x05, 0xDB), 0x01, 1497), 1496),
+        // Zeros that are counted are payload.
+        (ethernet(llc(0, 4), 0x00, 43), 1),
+        (ethernet(llc(0, 46), 0x00, 43), 43),
+    ] {
+        let expected = (0, (MAC, SOURCE, [17, count]));
+        assert_eq!(decode_form(LENGTH, &frame), expected);
+    }
+    let wrong_llc = |high, low| [high, low, 0xAA, 0xAA, 0x03];
+    for (answer, frame) in [
+        (21, vec![]),
+        (21, ethernet(llc(0, 3), 0, 0)[..16].to_vec()),
+        (24, ethernet(llc(0x05, 0xDC), 0, 1498)),
+        (61, ethernet(llc(0, 0), 0, 43)),
+        (61, ethernet(llc(0, 2), 0, 43)),
+        (61, ethernet(llc(0x05, 0xDD), 0, 1497)),
+        (61, ethernet(llc(0x82, 0xDC), 0, 43)),
+        (62, ethernet(llc(0, 4), 0, 0)),
+        (62, ethernet(llc(0x05, 0xDC), 0, 1496)),
+        (23, ethernet([0, 3, 0x83, 0x82, 0x03], 0, 43)),
+        (23, ethernet([0, 3, 0x82, 0x83, 0x03], 0, 43)),
+        (23, ethernet([0, 3, 0x82, 0x82, 0xE3], 0, 43)),
+        // Several questions fail: the first is answered.
+        (21, ethernet(wrong_llc(0, 2), 0, 0)[..16].to_vec()),
+        (24, ethernet(wrong_llc(0, 2), 0, 1498)),
+        (24, ethernet(wrong_llc(0x05, 0xDD), 0, 1498)),
+        (61, ethernet(wrong_llc(0, 2), 0, 0)),
+        (61, ethernet(wrong_llc(0x05, 0xDD), 0, 1496)),
+        (62, ethernet(wrong_llc(0, 4), 0, 0)),
+        (62, ethernet(wrong_llc(0x05, 0xDC), 0, 1496)),
+    ] {
+        assert_eq!(decode_form(LENGTH, &frame), (answer, UNTOUCHED));
     }
 }
 
 #[test]
 fn ethernet_encode() {
-    for (answer, payload, room) in [(0, 1, 62), (24, 1498, 1600), (25, 1, 59), (25, 0, 0)] {
-        let mut buffer = vec![OCTET; room + 32];
-        let out = &mut buffer[16..16 + room];
+    for (answer, payload, room) in [
+        (0, 1, 62),
+        (0, 1, 60),
+        (0, 1497, 1514),
+        (24, 1498, 1600),
+        (24, 1498, 0),
+        (25, 1, 59),
+        (25, 44, 60),
+        (25, 1497, 1513),
+        (25, 0, 0),
+    ] {
+        let [high, low] = (payload as u16 + 3).to_be_bytes();
         let payload = vec![0x41; payload];
-        let mut count = NUMBER;
-        let answered = unsafe {
-            lefkanu_ethernet_encode(
-                &MAC,
-                &[0x11; 6],
-                payload.as_ptr(),
-                payload.len(),
-                out.as_mut_ptr(),
-                out.len(),
-                &mut count,
-            )
+        let expected = |first, second| {
+            let mut expected = vec![OCTET; room + 32];
+            if answer != 0 {
+                return (answer, expected, NUMBER);
+            }
+            let mut frame = ethernet([first, second, 0x82, 0x82, 0x03], 0x41, payload.len());
+            frame.resize(frame.len().max(60), 0);
+            expected[16..16 + frame.len()].copy_from_slice(&frame);
+            (0, expected, frame.len())
         };
-        let mut expected = vec![OCTET; room + 32];
-        if answer == 0 {
-            expected[16..76].fill(0);
-            expected[16..22].copy_from_slice(&MAC);
-            expected[22..28].fill(0x11);
-            expected[28..34].copy_from_slice(&[0x82, 0xDC, 0x82, 0x82, 0x03, 0x41]);
+        let with_type = expected(0x82, 0xDC);
+        assert_eq!(encode_type(&payload, room), with_type);
+        assert_eq!(encode_form(ETHER_TYPE, &payload, room), with_type);
+        assert_eq!(encode_form(LENGTH, &payload, room), expected(high, low));
+    }
+}
+
+#[test]
+fn ethernet_forms() {
+    let frames = [
+        ethernet([0x82, 0xDC, 0x82, 0x82, 0x03], 0x01, 1),
+        ethernet([0x00, 0x04, 0x82, 0x82, 0x03], 0x01, 1),
+        ethernet([0x00, 0x02, 0xAA, 0xAA, 0x03], 0x01, 1498),
+        vec![],
+    ];
+    for form in 2..=0xFF {
+        for frame in &frames {
+            assert_eq!(decode_form(form, frame), (NO_CASE, UNTOUCHED));
         }
-        assert_eq!(answered, answer);
-        assert_eq!(buffer, expected);
-        assert_eq!(count, if answer == 0 { 60 } else { NUMBER });
+        for (payload, room) in [(1, 62), (1, 0), (1498, 1600), (1498, 0)] {
+            let expected = (NO_CASE, vec![OCTET; room + 32], NUMBER);
+            assert_eq!(encode_form(form, &vec![0x41; payload], room), expected);
+        }
     }
 }
 

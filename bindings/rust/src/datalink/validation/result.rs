@@ -68,12 +68,13 @@ pub fn validate_bacnet_ip_frame(data: &[u8]) -> ValidationResult {
     ValidationResult::of(&raw::validate_bacnet_ip_frame(data))
 }
 
-/// Holds octets to what an Ethernet frame must be.
+/// Holds octets to what an Ethernet frame must be, in the form of bacnet-rs (82 DC): a length there is an error.
 pub fn validate_ethernet_frame(data: &[u8]) -> ValidationResult {
     ValidationResult::of(&raw::validate_ethernet_frame(data))
 }
 
-/// Tells from the octets which data link they are of, and holds them to it.
+/// Tells from the octets which data link they are of, and holds them to it. Of Ethernet frames they tell those with
+/// 82 DC: one with a length is of no link, or is taken for MS/TP or BACnet/IP where it begins 55 FF or 81.
 pub fn validate_frame(rule: CheckRule, data: &[u8]) -> ValidationResult {
     ValidationResult::of(&raw::validate_frame(rule, data))
 }
