@@ -34,7 +34,7 @@ module _ {form : EthernetForm} (s : List ℕ) {n : ℕ} (is : n ≡ fieldOf s) w
     fails-24 many = rw named (failed 24 _ (lt-leb (length s) 1514 many))
 
     module _ (few : length s ≤ 1514) where
-      pub fails-61 : within 3 1500 n ≡ false → 61 ≡ firstNo (formQuestions form s)
+      fails-61 : within 3 1500 n ≡ false → 61 ≡ firstNo (formQuestions form s)
       unfolding formQuestions
       fails-61 out = rw named (passed 24 _ (le-leb (length s) 1514 few) (failed 61 _ (rw (← is) out)))
 
@@ -51,13 +51,6 @@ module _ {form : EthernetForm} (s : List ℕ) {n : ℕ} (is : n ≡ fieldOf s) w
         unfolding within
         in-range = rw (← is, le-leb 3 n least, le-leb n 1500 most)
 
-        pub fails-62 : length s - 14 < n → 62 ≡ firstNo (formQuestions form s)
-        unfolding formQuestions
-        fails-62 less =
-            rw named
-            (passed 24 _ (le-leb (length s) 1514 few)
-            (passed 61 _ in-range (failed 62 _ (lt-leb (fieldOf s) (length (drop 14 s)) (omega (arith, length-drop 14 s))))))
-
         pub passes-length : n ≤ length s - 14 → 0 ≡ firstNo (formQuestions form s)
         unfolding formQuestions
         passes-length there =
@@ -65,6 +58,13 @@ module _ {form : EthernetForm} (s : List ℕ) {n : ℕ} (is : n ≡ fieldOf s) w
             (passed 24 _ (le-leb (length s) 1514 few)
             (passed 61 _ in-range
             (passed 62 _ (le-leb (fieldOf s) (length (drop 14 s)) (omega (arith, length-drop 14 s))) ended)))
+
+        pub fails-62 : length s - 14 < n → 62 ≡ firstNo (formQuestions form s)
+        unfolding formQuestions
+        fails-62 less =
+            rw named
+            (passed 24 _ (le-leb (length s) 1514 few)
+            (passed 61 _ in-range (failed 62 _ (lt-leb (fieldOf s) (length (drop 14 s)) (omega (arith, length-drop 14 s))))))
 
 -- no question has the number 0
 pub numbered-form : (form : EthernetForm) (s : List ℕ) → Numbered (formQuestions form s)
