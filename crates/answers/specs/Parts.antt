@@ -7,7 +7,6 @@ use lib.ListN.{getD, take, drop}
 use Rattle.bip_message.specs.declared.BvlcMessage.{BvlcMessage}
 use Rattle.bip_message.specs.declared.BvlcMessage.the-variants.{Npdu, TimeToLive, NoNpdu, Refused}
 use Rattle.bip_message.specs.Message.{npdu}
-use Rattle.log_record.specs.declared.LogRecord.{LogRecord}
 
 -- what a BVLC message carries: 1 and an NPDU from a start to the message's size, as place and octet count
 abbrev pub npduNumbers : ℕ → ℕ → List ℕ
@@ -24,10 +23,6 @@ noNpduNumbers = 3 ∷ 0 ∷ 0 ∷ []
 -- the payload of an Ethernet frame, n octets: place and octet count
 abbrev pub payloadNumbers : ℕ → List ℕ
 payloadNumbers n = 17 ∷ n ∷ []
-
--- a record of the log: kind, place of its first octet, octet count
-abbrev pub recordNumbers : LogRecord → List ℕ
-recordNumbers x = x .kind ∷ x .start ∷ x .length ∷ []
 
 -- the part of some octets that two numbers of a list name, those from i on: its place and its octet count
 abbrev pub partNamed : ℕ → List ℕ → List ℕ → List ℕ

@@ -18,9 +18,9 @@ use Rattle.run_search.specs.declared.FrameFound.{FrameFound}
 use Rattle.run_search.specs.declared.FrameFound.the-variants as F
 use Rattle.log_record.specs.declared.RecordRead.{RecordRead}
 use Rattle.log_record.specs.declared.RecordRead.the-variants as L
-use Rattle.numbers.specs.Layout.{headerNumbers, bvlcNumbers, countNumbers}
+use Rattle.numbers.specs.Layout.{headerNumbers, bvlcNumbers, countNumbers, recordNumbers}
 use Rattle.result_numbers.specs.Layout.{resultNumbers}
-use Rattle.answers.specs.Parts.{npduNumbers, timeToLiveNumbers, noNpduNumbers, payloadNumbers, recordNumbers}
+use Rattle.answers.specs.Parts.{npduNumbers, timeToLiveNumbers, noNpduNumbers, payloadNumbers}
 
 -- "none", and "start reached"
 abbrev pub none : ℕ

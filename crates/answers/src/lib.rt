@@ -205,13 +205,13 @@ pub fn tell_found(answer: FrameFound, report: &mut [usize; 2]) -> u8
 }
 
 // What reading the log from an end answers.
-pub fn tell_record(answer: RecordRead, record: &mut [usize; 3]) -> u8
+pub fn tell_record(answer: RecordRead, record: &mut [usize; 5]) -> u8
     ensures { λ r. ⌜ r ≡ recordNumber answer ⌝ }
     ensures taken { λ r. ⌜ now («record» .exit) ≡ recordRead (now («record» .entry)) answer ⌝ }
 {
     match answer {
         RecordRead::Record(read) => {
-            *record = [read.kind as usize, read.start, read.length];
+            *record = numbers::record_numbers(read);
             0
         }
         RecordRead::StartReached => NONE,

@@ -1,4 +1,4 @@
--- The cases that the numbers of rules, types, functions and forms name.
+-- The cases that the numbers of rules, types, functions, forms and times name.
 -- Assumes nothing.
 use mathlib.Core.Path.{_≡_}
 use Prim.Native.Nat.{ℕ, _≤_, _<_}
@@ -11,7 +11,8 @@ use Rattle.bip_header.specs.declared.function.BvlcFunction.{BvlcFunction}
 use Rattle.bip_header.specs.declared.function.FunctionRead.the-variants as F
 use Rattle.bip_header.specs.Function.{functionOf, tryFrom}
 use Rattle.ethernet_decode.specs.declared.EthernetForm.{EthernetForm}
-use Rattle.numbers.specs.Named.{forCase, ruleOf, underRule, formOf, inForm}
+use Rattle.log_record.specs.declared.RecordTime.{RecordTime}
+use Rattle.numbers.specs.Named.{forCase, ruleOf, underRule, formOf, inForm, timeOf, atTime}
 use Rattle.numbers.proofs.Named.{no-case, names, names-none, told}
 
 -- a number above 1 names no rule
@@ -31,6 +32,15 @@ no-form = no-case 1 formOf
 pub within-form : {A B : Type 0} (number : ℕ) (call : EthernetForm → A) (tell : A → B) (unknown : B) {form : EthernetForm} {answer : A}
     → number ≤ 1 → form ≡ formOf number → answer ≡ call form → tell answer ≡ inForm number (λ form. tell (call form)) unknown
 within-form = told 1 formOf
+
+-- a number above 1 names no time
+pub no-time : {A : Type 0} (number second : ℕ) (known : RecordTime → A) (unknown : A) → 1 < number → unknown ≡ atTime number second known unknown
+no-time number second = no-case 1 (timeOf second) number
+
+-- a call at the time of a number and a second, and what its answer is told as
+pub at-time : {A B : Type 0} (number second : ℕ) (call : RecordTime → A) (tell : A → B) (unknown : B) {time : RecordTime} {answer : A}
+    → number ≤ 1 → time ≡ timeOf second number → answer ≡ call time → tell answer ≡ atTime number second (λ time. tell (call time)) unknown
+at-time number second = told 1 (timeOf second) number
 
 -- the type that a number names
 pub type-named : (number : ℕ) (type : MstpFrameType) → fromU8 number ≡ T.Known type → (number ≤ 7) × (type ≡ typeOf number)

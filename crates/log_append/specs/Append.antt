@@ -13,11 +13,12 @@ use Rattle.log_record.specs.Read.{logRecord, readRecord, payloadOf}
 use Rattle.octets.specs.declared.CountResult.{CountResult}
 use Rattle.octets.specs.declared.CountResult.the-variants.{Count, Refused}
 use Rattle.log_record.specs.declared.RecordRead.the-variants.{Record}
+use Rattle.log_record.specs.declared.RecordTime.{RecordTime}
 
-module _ (buffer : List ℕ) (used kind : ℕ) (payload : List ℕ) where
+module _ (buffer : List ℕ) (used kind : ℕ) (time : RecordTime) (payload : List ℕ) where
   -- the log afterwards: its used octets, then the record
   abbrev pub longer : List ℕ
-  longer = take used buffer ++ recordOctets kind payload
+  longer = take used buffer ++ recordOctets kind time payload
 
   -- the questions in document 01's order
   unfoldable pub appendQuestions : List Question
@@ -25,7 +26,7 @@ module _ (buffer : List ℕ) (used kind : ℕ) (payload : List ℕ) where
       ask 47 (leb used (length buffer))
       ∷ ask 42 (knownKind kind)
       ∷ ask 43 (allowedSize (length payload))
-      ∷ ask 46 (leb (used + length (recordOctets kind payload)) (length buffer))
+      ∷ ask 46 (leb (used + length (recordOctets kind time payload)) (length buffer))
       ∷ []
 
   -- the first that fails, or 0
@@ -34,7 +35,7 @@ module _ (buffer : List ℕ) (used kind : ℕ) (payload : List ℕ) where
 
   -- what appending answers: the new used count, or the question
   unfoldable pub appendAnswer : CountResult
-  appendAnswer = answered Refused appendQuestion (Count (used + length (recordOctets kind payload)))
+  appendAnswer = answered Refused appendQuestion (Count (used + length (recordOctets kind time payload)))
 
   -- the buffer afterwards: the longer log at its front, or as it was
   unfoldable pub appendOutput : List ℕ
@@ -43,7 +44,7 @@ module _ (buffer : List ℕ) (used kind : ℕ) (payload : List ℕ) where
   -- reading from a new used count gives the record and its octets, and from the old count, or any k octets before it, what it
   -- gave before
   pub record GivesBack (after : List ℕ) (n : ℕ) : Type 0 where
-    pub read : readRecord after n ≡ Record (logRecord kind used (length payload))
+    pub read : readRecord after n ≡ Record (logRecord kind time used (length payload))
     pub octets : payloadOf after (readRecord after n) ≡ payload
     pub before : (k : ℕ) → readRecord after (used - k) ≡ readRecord buffer (used - k)
 

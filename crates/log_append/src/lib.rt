@@ -1,6 +1,7 @@
-// Appending a record to a log: its octets, then its kind and length.
+// Appending a record to a log: its octets, then its time, if it has one, its kind and its length.
 mod output;
 
+use log_record::RecordTime;
 use log_record::TRAILER_SIZE;
 use octets::CountResult;
 ghost use mathlib.Core.Path.{_≡_};
@@ -9,10 +10,16 @@ ghost use Rattle.log_append.specs.Append.{appendAnswer, appendOutput, Re
 // Appends a record behind the first `used` octets of a buffer, touches nothing else, and answers the new used count:
 // reading from there gives the record back, and what stood before it reads as before. Or answers the question that
 // fails, and writes nothing.
-pub fn append(buffer: &mut [u8], used: usize, kind: u8, payload: &[u8]) -> CountResult
-    ensures { λ r. ⌜ r ≡ appendAnswer (now (buffer .entry)) used kind (now (payload .entry)) ⌝ }
-    ensures output { λ r. ⌜ now (buffer .exit) ≡ appendOutput (now (buffer .entry)) used kind (now (payload .entry)) ⌝ }
-    ensures back { λ r. ⌜ ReadsBack (now (buffer .entry)) used kind (now (payload .entry)) (now (buffer .exit)) r ⌝ }
+pub fn append(
+    buffer: &mut [u8],
+    used: usize,
+    kind: u8,
+    time: RecordTime,
+    payload: &[u8],
+) -> CountResult
+    ensures { λ r. ⌜ r ≡ appendAnswer (now (buffer .entry)) used kind time (now (payload .entry)) ⌝ }
+    ensures output { λ r. ⌜ now (buffer .exit) ≡ appendOutput (now (buffer .entry)) used kind time (now (payload .entry)) ⌝ }
+    ensures back { λ r. ⌜ ReadsBack (now (buffer .entry)) used kind time (now (payload .entry)) (now (buffer .exit)) r ⌝ }
 {
     if buffer.len() < used {
         return CountResult::Refused(47);
@@ -24,8 +31,8 @@ pub fn append(buffer: &mut [u8], used: usize, kind: u8, payload: &[u8]) -> Count
     if !log_record::allowed_size(n) {
         return CountResult::Refused(43);
     }
-    if buffer.len() - used < n + TRAILER_SIZE {
+    if buffer.len() - used < n + (log_record::time_size(time) + TRAILER_SIZE) {
         return CountResult::Refused(46);
     }
-    CountResult::Count(output::put_record(kind, payload, buffer, used))
+    CountResult::Count(output::put_record(kind, time, payload, buffer, used))
 }

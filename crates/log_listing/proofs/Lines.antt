@@ -3,7 +3,7 @@
 use mathlib.Core.Path.{_≡_, refl, sym, ap, subst, _∙_}
 use mathlib.Core.Bool.{Bool, true, false, cond}
 use mathlib.Core.List.{List, [], _∷_, _++_, append-assoc, append-nil, flatMap}
-use Prim.Native.Nat.{ℕ, suc, _+_, _*_, _≤_}
+use Prim.Native.Nat.{ℕ, suc, _+_, _-_, _*_, _≤_}
 use native.Mathlib.Omega.{arith}
 use lib.Dec.{eqb, leb}
 use lib.ListN.{length, drop, length-append, length-take}
@@ -16,7 +16,9 @@ use Rattle.octets.proofs.Puts.{Putting, putting-room, putting-next, putting-end
 use Rattle.log_record.specs.declared.LogRecord.{LogRecord}
 use Rattle.log_record.specs.declared.RecordRead.{RecordRead}
 use Rattle.log_record.specs.declared.RecordRead.the-variants.{Record, StartReached, Refused}
-use Rattle.log_record.specs.Read.{readQuestion, recordBefore, readRecord, payloadIn, trailerQuestions}
+use Rattle.log_record.specs.declared.RecordTime.the-variants.{Second, None}
+use Rattle.log_record.specs.Record.{timeOctets}
+use Rattle.log_record.specs.Read.{timed, octetBefore, secondBefore, timeBefore, readQuestion, recordBefore, readRecord, payloadIn, trailerQuestions}
 use Rattle.log_reading.specs.Reading.{Back, Listed, andThen, andOn, listed}
 use Rattle.log_reading.specs.Reading.Back.{start, refused, next}
 use Rattle.log_record.proofs.Ends.{trailer-read}
@@ -24,7 +26,7 @@ use Rattle.log_reading.proofs.Reading.{listed-next, listed-last, back}
 use Rattle.text.specs.Text.{letters, field}
 use Rattle.log_listing.specs.Listing.{lineOf, lastLine, lines, logLines}
 use Rattle.text.proofs.Decimals.{length-field}
-use Rattle.log_listing.proofs.Records.{line-most}
+use Rattle.log_listing.proofs.Records.{TenDigits, line-most}
 
 -- the first question that fails is at most 47 where all numbers are
 abbrev Most47 : List Question → Type 0
@@ -36,6 +38,15 @@ unfolding firstNo
 first-most [] most = omega arith
 first-most (ask number true ∷ questions) most = first-most questions (most .1)
 first-most (ask number false ∷ questions) most = most .0
+
+-- a second that was read has at most ten digits
+ten-digits : (log : List ℕ) → Octets log → (end : ℕ) → TenDigits (timeBefore log end)
+unfolding timeBefore
+ten-digits log octets end = by (timed (octetBefore log end))
+  where
+    by : (b : Bool) → TenDigits (cond b (Second (secondBefore log end)) None)
+    by true = omega (arith, octets (end - 7), octets (end - 6), octets (end - 5), octets (end - 4))
+    by false = tt
 
 module _ (log : List ℕ) where
   -- the question at which a reading stops has two digits at most
@@ -64,17 +75,18 @@ module _ (log : List ℕ) where
       let most = stopped-most end e in
       omega (arith, length-field 1 q (omega arith), length-append (field q) (letters "\n"))
 
-  -- a record that was read: its line has at most 24 octets, and it takes four or more of the log
+  -- a record that was read: its line has at most six octets for each that it takes of the log
   module _ (end : ℕ) {x : LogRecord} (e : readRecord log end ≡ Record x) where
     pub payload-most : length (payloadIn log x) ≤ 1514
     payload-most = omega (arith, length-take (x .length) (drop (x .start) log), within-true 1 1514 (x .length) (trailer-read log end x e .sized) .1)
 
-    record-most : Octets log → length (lineOf log x) ≤ 24
+    record-most : Octets log → length (lineOf log x) ≤ 23 + 3 * length (timeOctets (x .time))
     record-most octets =
-        line-most (x .kind) (payloadIn log x) (octets-take (x .length) (drop (x .start) log) (octets-drop (x .start) log octets)) (within-true 1 3 (x .kind) (trailer-read log end x e .known) .1) payload-most
+        line-most (x .kind) (x .time) (payloadIn log x) (octets-take (x .length) (drop (x .start) log) (octets-drop (x .start) log octets)) (within-true 1 3 (x .kind) (trailer-read log end x e .known) .1)
+        (subst TenDigits (trailer-read log end x e .time) (ten-digits log octets end)) payload-most
 
-    four : x .start + 4 ≤ end
-    four = let t = trailer-read log end x e in omega (arith, t .ends, within-true 1 1514 (x .length) (t .sized) .0)
+    takes : x .start + (4 + length (timeOctets (x .time))) ≤ end
+    takes = let t = trailer-read log end x e in omega (arith, t .ends, within-true 1 1514 (x .length) (t .sized) .0)
 
   -- a record's line is before those behind it
   lines-then : (x : LogRecord) (l : Listed) → lines log (andThen x l) ≡ lineOf log x ++ lines log l
@@ -100,7 +112,7 @@ module _ (log : List ℕ) where
   back-most octets {end} (refused {question = q} e) = omega (arith, last-most end (Refused q) e, ap length (lines-none (Refused q)))
   back-most octets {end} (next {x = x} {xs = xs} {last = a} e on) =
       let rest : Listed = record { records = xs; last = a } in
-      omega (arith, four end e, record-most end e octets, back-most octets on, ap length (lines-then x rest), length-append (lineOf log x) (lines log rest))
+      omega (arith, takes end e, record-most end e octets, back-most octets on, ap length (lines-then x rest), length-append (lineOf log x) (lines log rest))
 
   pub lines-most : Octets log → length (logLines log) ≤ 6 * length log + 11
   lines-most octets = back-most octets (back log (suc (length log)) (length log) (omega arith))

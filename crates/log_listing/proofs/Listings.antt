@@ -31,11 +31,11 @@ listing-long log many = rw (lt-leb (length log) 65536 many)
 
 -- the lines of records that have the octets of entries
 entries-lines : (log : List ℕ) (es : List Entry) → map (payloadIn log) (recordsOf es) ≡ map (λ (e : Entry). e .payload) es
-    → flatMap (lineOf log) (recordsOf es) ≡ flatMap (λ (e : Entry). recordLine (e .kind) (e .payload)) es
+    → flatMap (lineOf log) (recordsOf es) ≡ flatMap (λ (e : Entry). recordLine (e .kind) (e .time) (e .payload)) es
 unfolding recordsOf flatMap
 entries-lines log [] same = refl
 entries-lines log (e ∷ es) same =
-    ap₂ (λ (p l : List ℕ). recordLine (e .kind) p ++ l) (cc) (entries-lines log es (cc))
+    ap₂ (λ (p l : List ℕ). recordLine (e .kind) (e .time) p ++ l) (cc) (entries-lines log es (cc))
 
 lists-written : (log : List ℕ) → ListsWritten log
 unfolding listing lines

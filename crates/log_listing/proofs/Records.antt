@@ -3,7 +3,7 @@
 use mathlib.Core.Path.{_≡_, refl, ap, ap₂, _∙_}
 use mathlib.Core.Bool.{Bool, true, false, cond}
 use mathlib.Core.List.{List, [], _∷_}
-use Prim.Native.Nat.{ℕ, _≤_, _<_}
+use Prim.Native.Nat.{ℕ, _+_, _*_, _^_, _≤_, _<_}
 use native.Mathlib.Omega.{arith}
 use borrow.Author.Tests.{le-leb}
 use mir.Val.{boolByte}
@@ -16,7 +16,11 @@ use Rattle.octets.specs.declared.CountResult.the-variants.{Count, Refused}
 use Rattle.run_finder.specs.Reading.{reading}
 use Rattle.run_reading.specs.Answer.{Counted}
 use Rattle.run_finder.proofs.Pass.{few-reports}
-use Rattle.log_listing.specs.Listing.{valid, frames, line, recordLine}
+use Rattle.log_record.specs.Record.{timeOctets}
+use Rattle.log_record.specs.declared.RecordTime.{RecordTime}
+use Rattle.log_record.specs.declared.RecordTime.the-variants.{Second, None}
+use Rattle.log_listing.specs.Listing.{valid, frames, timeField, line, recordLine}
+use Rattle.text.specs.Text.{field}
 use Rattle.text.proofs.Decimals.{length-field}
 
 -- counting the frames of so few octets is not refused
@@ -39,10 +43,27 @@ frames-most kind payload octets few = by (eqb kind 1)
     by true = omega (arith, few-reports AnnexG payload (omega arith) octets)
     by false = omega arith
 
--- a record's line has at most 24 octets
-pub line-most : (kind : ℕ) (payload : List ℕ) → Octets payload → kind ≤ 3 → length payload ≤ 1514 → length (recordLine kind payload) ≤ 24
+-- a second of at most ten digits
+abbrev pub TenDigits : RecordTime → Type 0
+TenDigits (Second s) = s < 10 ^ 10
+TenDigits None = Unit {0}
+
+-- the field of a time: every second's is its number
+second-field : (s : ℕ) → timeField (Second s) ≡ field s
+unfolding timeField
+second-field s = refl
+
+-- it has two octets, and at most nine more for the four of a second
+time-most : (time : RecordTime) → TenDigits time → length (timeField time) ≤ 2 + 3 * length (timeOctets time)
+unfolding timeField timeOctets
+time-most (Second s) few = omega (arith, length-field 9 s few, ap length (second-field s))
+time-most None few = omega arith
+
+-- so a record's line has at most 23 octets, and nine more with a time
+pub line-most : (kind : ℕ) (time : RecordTime) (payload : List ℕ) → Octets payload → kind ≤ 3 → TenDigits time → length payload ≤ 1514
+    → length (recordLine kind time payload) ≤ 23 + 3 * length (timeOctets time)
 unfolding line recordLine
-line-most kind payload octets known few =
+line-most kind time payload octets known ten few =
     simp length-append
     (omega (
       arith,
@@ -50,6 +71,7 @@ line-most kind payload octets known few =
       length-field 3 (length payload) (omega arith),
       length-field 0 (cond (valid kind payload) 1 0) (bit (valid kind payload)),
       length-field 3 (frames kind payload) (omega (arith, frames-most kind payload octets few)),
+      time-most time ten,
     ))
   where
     bit : (b : Bool) → cond b 1 0 < 10
@@ -57,10 +79,12 @@ line-most kind payload octets known few =
     bit false = omega arith
 
 -- the line of the numbers that the code finds
-pub line-is : (kind : ℕ) (payload : List ℕ) {b : Bool} {f : ℕ} → b ≡ valid kind payload → f ≡ frames kind payload
-    → line kind (length payload) (boolByte b) f ≡ recordLine kind payload
+pub line-is : (kind : ℕ) (time : RecordTime) (payload : List ℕ) {b : Bool} {f : ℕ} → b ≡ valid kind payload → f ≡ frames kind payload
+    → line kind (length payload) (boolByte b) f time ≡ recordLine kind time payload
 unfolding recordLine
-line-is kind payload ev ef = ap₂ (λ (b : Bool) (f : ℕ). line kind (length payload) (boolByte b) f) ev ef ∙ ap (λ (v : ℕ). line kind (length payload) v (frames kind payload)) (bit (valid kind payload))
+line-is kind time payload ev ef =
+    ap₂ (λ (b : Bool) (f : ℕ). line kind (length payload) (boolByte b) f time) ev ef
+    ∙ ap (λ (v : ℕ). line kind (length payload) v (frames kind payload) time) (bit (valid kind payload))
   where
     bit : (b : Bool) → boolByte b ≡ cond b 1 0
     bit true = refl

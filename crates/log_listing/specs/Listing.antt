@@ -15,6 +15,8 @@ use Rattle.run_finder.specs.Reading.{reading}
 use Rattle.log_record.specs.declared.LogRecord.{LogRecord}
 use Rattle.log_record.specs.declared.RecordRead.{RecordRead}
 use Rattle.log_record.specs.declared.RecordRead.the-variants.{Record, StartReached, Refused}
+use Rattle.log_record.specs.declared.RecordTime.{RecordTime}
+use Rattle.log_record.specs.declared.RecordTime.the-variants.{Second, None}
 use Rattle.log_record.specs.Record.{Entry}
 use Rattle.log_record.specs.Read.{payloadIn}
 use Rattle.log_reading.specs.Reading.{Listed, listed}
@@ -30,13 +32,18 @@ valid kind payload =
 unfoldable pub frames : ℕ → List ℕ → ℕ
 frames kind payload = cond (eqb kind 1) (length (reading AnnexG payload)) 0
 
--- a line: `record` and four numbers
-unfoldable pub line : ℕ → ℕ → ℕ → ℕ → List ℕ
-line k l v f = texts (letters "record" ∷ field k ∷ field l ∷ field v ∷ field f ∷ letters "\n" ∷ [])
+-- the field of a time: the second, or `-`
+unfoldable pub timeField : RecordTime → List ℕ
+timeField (Second s) = field s
+timeField None = letters " -"
 
--- a record's line: kind, length, 1 if valid else 0, frames
-unfoldable pub recordLine : ℕ → List ℕ → List ℕ
-recordLine kind payload = line kind (length payload) (cond (valid kind payload) 1 0) (frames kind payload)
+-- a line: `record`, four numbers and a time
+unfoldable pub line : ℕ → ℕ → ℕ → ℕ → RecordTime → List ℕ
+line k l v f time = texts (letters "record" ∷ field k ∷ field l ∷ field v ∷ field f ∷ timeField time ∷ letters "\n" ∷ [])
+
+-- a record's line: kind, length, 1 if valid else 0, frames, when it was made
+unfoldable pub recordLine : ℕ → RecordTime → List ℕ → List ℕ
+recordLine kind time payload = line kind (length payload) (cond (valid kind payload) 1 0) (frames kind payload) time
 
 -- the last line: `end`, or `stopped` and the question number
 abbrev pub lastLine : RecordRead → List ℕ
@@ -46,7 +53,7 @@ lastLine (Refused question) = texts (letters "stopped" ∷ field question ∷ le
 
 -- the line of a record of a log
 abbrev pub lineOf : List ℕ → LogRecord → List ℕ
-lineOf log x = recordLine (x .kind) (payloadIn log x)
+lineOf log x = recordLine (x .kind) (x .time) (payloadIn log x)
 
 -- the lines of a whole reading
 unfoldable pub lines : List ℕ → Listed → List ℕ
@@ -72,4 +79,4 @@ listing log = ifRead log (logLines log)
 abbrev pub ListsWritten : List ℕ → Type 0
 ListsWritten log =
     (buffer : List ℕ) (es : List Entry) → Written buffer (length log) es → log ≡ take (length log) buffer
-    → listing log ≡ ifRead log (flatMap (λ (e : Entry). recordLine (e .kind) (e .payload)) es ++ letters "end\n")
+    → listing log ≡ ifRead log (flatMap (λ (e : Entry). recordLine (e .kind) (e .time) (e .payload)) es ++ letters "end\n")

@@ -13,7 +13,8 @@ ghost use Rattle.log_listing.specs.Listing.{logLines, listing, ListsWrit
 // Most octets of a log that is read.
 pub const MAX_LOG: usize = 65536;
 
-// Octets enough for every text: 24 for each of 16,384 records, and 11 for the longest last line, `stopped 44`.
+// Octets enough for every text: six for each octet of the log, and 11 for the longest last line, `stopped 44`. A record
+// without a time has four octets or more and a line of at most 23; one with a time eight or more and a line of at most 32.
 pub const MAX_TEXT: usize = 393227;
 
 // The lines of a log.
@@ -27,8 +28,10 @@ fn put_lines(log: &[u8], out: &mut [u8]) -> usize
         match log_record::read_record(log, end) {
             RecordRead::Record(record) => {
                 let kind = record.kind;
+                let time = record.time;
                 end = record.start;
-                at = line::put_record_line(kind, log_record::payload_in(log, record), out, at);
+                let payload = log_record::payload_in(log, record);
+                at = line::put_record_line(kind, time, payload, out, at);
             }
             RecordRead::StartReached => return octets::put(b"end\n", out, at),
             RecordRead::Refused(question) => return line::put_stopped(question, out, at),

@@ -10,7 +10,7 @@ use lib.ListN.{length, take, length-take}
 use lib.Seq.{take-take, take-at, length-take-le}
 use Rattle.octets.specs.Output.{atFront, writeOutput}
 use Rattle.octets.proofs.Questions.{all-yes, answered-value, answered-refused, is-value, is-refusal}
-use Rattle.log_record.specs.Record.{Entry, knownKind, allowedSize, recordOctets}
+use Rattle.log_record.specs.Record.{Entry, knownKind, allowedSize, timeOctets, recordOctets}
 use Rattle.log_record.specs.Read.{payloadIn}
 use Rattle.log_append.specs.Append.{longer, appendQuestions, appendQuestion, appendAnswer, appendOutput}
 use Rattle.log_reading.specs.Reading.{Back, counted, CountsBack}
@@ -37,31 +37,31 @@ record Holds (buffer : List ℕ) (used : ℕ) (es : List Entry) : Type 0 where
 
 -- a call that takes an entry puts it behind them
 holds-taken : (buffer : List ℕ) (used : ℕ) (es : List Entry) (e : Entry) (n : ℕ) → Holds buffer used es
-    → appendAnswer buffer used (e .kind) (e .payload) ≡ Count n → Holds (appendOutput buffer used (e .kind) (e .payload)) n (e ∷ es)
+    → appendAnswer buffer used (e .kind) (e .time) (e .payload) ≡ Count n → Holds (appendOutput buffer used (e .kind) (e .time) (e .payload)) n (e ∷ es)
 unfolding logOf appendAnswer appendOutput writeOutput appendQuestion appendQuestions
 holds-taken buffer used es e n h answer =
-    let asked = is-value Refused (Count (used + length (recordOctets (e .kind) (e .payload)))) _ answer (λ k same. let z : _≡_ {A = ℕ} 0 1 = cc in absurd (omega arith)) in
-    let yes = all-yes (appendQuestions buffer used (e .kind) (e .payload)) tt (asked .0) in
-    let size = record-size (e .kind) (e .payload) in
-    let room : used + (length (e .payload) + 3) ≤ length buffer
-    = omega (arith, leb-true (used + length (recordOctets (e .kind) (e .payload))) (length buffer) (yes .1 .1 .1 .0)) in
+    let asked = is-value Refused (Count (used + length (recordOctets (e .kind) (e .time) (e .payload)))) _ answer (λ k same. let z : _≡_ {A = ℕ} 0 1 = cc in absurd (omega arith)) in
+    let yes = all-yes (appendQuestions buffer used (e .kind) (e .time) (e .payload)) tt (asked .0) in
+    let size = record-size (e .kind) (e .time) (e .payload) in
+    let room : used + (length (e .payload) + (length (timeOctets (e .time)) + 3)) ≤ length buffer
+    = omega (arith, leb-true (used + length (recordOctets (e .kind) (e .time) (e .payload))) (length buffer) (yes .1 .1 .1 .0)) in
     let same = asked .1 in
-    let count : used + length (recordOctets (e .kind) (e .payload)) ≡ n = cc in
-    let m : n ≡ used + (length (e .payload) + 3) = omega arith in
-    rw (answered-value (λ _. buffer) (atFront (longer buffer used (e .kind) (e .payload)) buffer) (asked .0), m)
+    let count : used + length (recordOctets (e .kind) (e .time) (e .payload)) ≡ n = cc in
+    let m : n ≡ used + (length (e .payload) + (length (timeOctets (e .time)) + 3)) = omega arith in
+    rw (answered-value (λ _. buffer) (atFront (longer buffer used (e .kind) (e .time) (e .payload)) buffer) (asked .0), m)
     (record {
-      fits = omega (arith, after-size buffer used (e .kind) (e .payload) room);
-      octets = stands buffer used (e .kind) (e .payload) room ∙ ap (λ (l : List ℕ). l ++ recordOctets (e .kind) (e .payload)) (h .octets);
+      fits = omega (arith, after-size buffer used (e .kind) (e .time) (e .payload) room);
+      octets = stands buffer used (e .kind) (e .time) (e .payload) room ∙ ap (λ (l : List ℕ). l ++ recordOctets (e .kind) (e .time) (e .payload)) (h .octets);
       taken = ((yes .1 .0, yes .1 .1 .0), h .taken);
     })
 
 -- one that refuses leaves all as it was
 holds-refused : (buffer : List ℕ) (used : ℕ) (es : List Entry) (e : Entry) (q : ℕ) → Holds buffer used es
-    → appendAnswer buffer used (e .kind) (e .payload) ≡ Refused q → Holds (appendOutput buffer used (e .kind) (e .payload)) used es
+    → appendAnswer buffer used (e .kind) (e .time) (e .payload) ≡ Refused q → Holds (appendOutput buffer used (e .kind) (e .time) (e .payload)) used es
 unfolding appendAnswer appendOutput writeOutput
 holds-refused buffer used es e q h answer =
-    let failed = is-refusal Refused (Count (used + length (recordOctets (e .kind) (e .payload)))) _ answer (λ same. let z : _≡_ {A = ℕ} 0 1 = cc in absurd (omega arith)) in
-    rw (answered-refused (λ _. buffer) (atFront (longer buffer used (e .kind) (e .payload)) buffer) _ (failed .0)) h
+    let failed = is-refusal Refused (Count (used + length (recordOctets (e .kind) (e .time) (e .payload)))) _ answer (λ same. let z : _≡_ {A = ℕ} 0 1 = cc in absurd (omega arith)) in
+    rw (answered-refused (λ _. buffer) (atFront (longer buffer used (e .kind) (e .time) (e .payload)) buffer) _ (failed .0)) h
 
 -- so they do after any calls of `append`
 holds : (buffer : List ℕ) (used : ℕ) (es : List Entry) → Written buffer used es → Holds buffer used es
@@ -81,13 +81,13 @@ module _ (log : List ℕ) where
       let none : end ≡ 0 = omega (arith, length-take-le end log fits, ap length octets) in
       (rw none (start (sym (at-start log refl))), refl)
   gives (e ∷ es) end fits octets all =
-      let is = end-is log (logOf es) (e .kind) (e .payload) end fits octets in
+      let is = end-is log (logOf es) (e .kind) (e .time) (e .payload) end fits octets in
       let older : take (length (logOf es)) log ≡ logOf es
       = sym (take-take (length (logOf es)) end log (omega arith)) ∙ ap (λ (l : List ℕ). take (length (logOf es)) l) octets
-      ∙ take-at (logOf es) (recordOctets (e .kind) (e .payload)) (length (logOf es)) refl in
+      ∙ take-at (logOf es) (recordOctets (e .kind) (e .time) (e .payload)) (length (logOf es)) refl in
       let on = gives es (length (logOf es)) (omega arith) older (all .1) in (
-        next (read-there log (logOf es) (e .kind) (e .payload) end fits octets (all .0 .0) (all .0 .1)) (on .0),
-        ap₂ (λ (p : List ℕ) (ps : List (List ℕ)). p ∷ ps) (payload-there log (logOf es) (e .kind) (e .payload) end fits octets) (on .1),
+        next (read-there log (logOf es) (e .kind) (e .time) (e .payload) end fits octets (all .0 .0) (all .0 .1)) (on .0),
+        ap₂ (λ (p : List ℕ) (ps : List (List ℕ)). p ∷ ps) (payload-there log (logOf es) (e .kind) (e .time) (e .payload) end fits octets) (on .1),
       )
 
   -- so they do back from the end of a written log

@@ -17,21 +17,21 @@ use Rattle.log_reading.specs.declared.RecordsCounted.{RecordsCounted}
 pub data Written : List ℕ → ℕ → List Entry → Type 0 where
   empty : {buffer : List ℕ} → Written buffer 0 []
   taken : {buffer : List ℕ} {used n : ℕ} {es : List Entry} → Written buffer used es → (e : Entry)
-      → appendAnswer buffer used (e .kind) (e .payload) ≡ Count n
-      → Written (appendOutput buffer used (e .kind) (e .payload)) n (e ∷ es)
+      → appendAnswer buffer used (e .kind) (e .time) (e .payload) ≡ Count n
+      → Written (appendOutput buffer used (e .kind) (e .time) (e .payload)) n (e ∷ es)
   refused : {buffer : List ℕ} {used question : ℕ} {es : List Entry} → Written buffer used es → (e : Entry)
-      → appendAnswer buffer used (e .kind) (e .payload) ≡ Refused question
-      → Written (appendOutput buffer used (e .kind) (e .payload)) used es
+      → appendAnswer buffer used (e .kind) (e .time) (e .payload) ≡ Refused question
+      → Written (appendOutput buffer used (e .kind) (e .time) (e .payload)) used es
 
 -- the octets of a log with these entries, newest first
 unfoldable pub logOf : List Entry → List ℕ
 logOf [] = []
-logOf (e ∷ es) = logOf es ++ recordOctets (e .kind) (e .payload)
+logOf (e ∷ es) = logOf es ++ recordOctets (e .kind) (e .time) (e .payload)
 
 -- the records of that log, newest first
 unfoldable pub recordsOf : List Entry → List LogRecord
 recordsOf [] = []
-recordsOf (e ∷ es) = logRecord (e .kind) (length (logOf es)) (length (e .payload)) ∷ recordsOf es
+recordsOf (e ∷ es) = logRecord (e .kind) (e .time) (length (logOf es)) (length (e .payload)) ∷ recordsOf es
 
 -- reading a written log gives its records, newest first, with their octets, then "start reached"
 pub record GivesEntries (log : List ℕ) (end : ℕ) (es : List Entry) (answer : RecordsCounted) : Type 0 where

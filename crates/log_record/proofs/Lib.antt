@@ -1,2 +1,3 @@
+pub mod KindOctet
 pub mod Read
 pub mod Ends

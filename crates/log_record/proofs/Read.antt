@@ -1,6 +1,6 @@
 -- Reading a record: what each return of the code answers.
 -- Assumes nothing.
-use mathlib.Core.Path.{_≡_, refl, sym, _∙_}
+use mathlib.Core.Path.{_≡_, refl, sym, ap₂, subst, _∙_}
 use mathlib.Core.Bool.{Bool, true, false}
 use mathlib.Core.List.{List, [], _∷_}
 use Prim.Native.Nat.{ℕ, _+_, _-_, _≤_, _<_}
@@ -10,8 +10,9 @@ use lib.Dec.{leb}
 use lib.ListN.{length}
 use Rattle.octets.specs.Question.{ask, firstNo}
 use Rattle.octets.proofs.Questions.{passed, failed, ended, refusal, acceptance}
-use Rattle.log_record.specs.Record.{knownKind, allowedSize}
-use Rattle.log_record.specs.Read.{logRecord, kindBefore, lengthBefore, trailerQuestions, readQuestion, recordBefore, readRecord}
+use Rattle.log_record.specs.Record.{knownKind, allowedSize, timeOctets}
+use Rattle.log_record.specs.Read.{logRecord, kindOf, octetBefore, lengthBefore, timeBefore, sizeBefore, trailerQuestions, readQuestion, recordBefore, readRecord}
+use Rattle.log_record.specs.declared.RecordTime.{RecordTime}
 use Rattle.log_record.specs.declared.RecordRead.the-variants.{Record, StartReached, Refused}
 
 module _ (log : List ℕ) where
@@ -39,7 +40,7 @@ module _ (log : List ℕ) (end : ℕ) (some : 0 < end) (fits : end ≤ length lo
   pub no-trailer : end < 3 → Refused 41 ≡ readRecord log end
   no-trailer h = refused (failed 41 _ (lt-leb 3 end h)) (λ z. omega arith)
 
-  module _ (three : 3 ≤ end) {known : Bool} (kind-asked : known ≡ knownKind (kindBefore log end)) where
+  module _ (three : 3 ≤ end) {known : Bool} (kind-asked : known ≡ knownKind (kindOf (octetBefore log end))) where
     pub no-kind : known ≡ false → Refused 42 ≡ readRecord log end
     no-kind e = refused (passed 41 _ (le-leb 3 end three) (failed 42 _ (sym kind-asked ∙ e))) (λ z. omega arith)
 
@@ -50,18 +51,22 @@ module _ (log : List ℕ) (end : ℕ) (some : 0 < end) (fits : end ≤ length lo
           (passed 41 _ (le-leb 3 end three) (passed 42 _ (sym kind-asked ∙ kind) (failed 43 _ (rw (← length-is) (sym size-asked ∙ e)))))
           (λ z. omega arith)
 
-      module _ (size : sized ≡ true) where
+      module _ (size : sized ≡ true) {t : ℕ} (time-size : t ≡ length (timeOctets (timeBefore log end))) where
+        size-is : n + (t + 3) ≡ sizeBefore log end
+        size-is = ap₂ (λ (a b : ℕ). a + (b + 3)) length-is time-size
+
         -- the last question
-        asked-last : {q : ℕ} → q ≡ firstNo (ask 44 (leb (n + 3) end) ∷ []) → q ≡ firstNo (trailerQuestions log end)
-        asked-last e =
+        asked-last : {q : ℕ} → q ≡ firstNo (ask 44 (leb (n + (t + 3)) end) ∷ []) → q ≡ firstNo (trailerQuestions log end)
+        asked-last {q} e =
             passed 41 _ (le-leb 3 end three)
-            (passed 42 _ (sym kind-asked ∙ kind) (passed 43 _ (rw (← length-is) (sym size-asked ∙ size)) (rw (← length-is) e)))
+            (passed 42 _ (sym kind-asked ∙ kind) (passed 43 _ (rw (← length-is) (sym size-asked ∙ size)) (subst (λ (size : ℕ). q ≡ firstNo (ask 44 (leb size end) ∷ [])) size-is e)))
 
-        pub no-octets : end < n + 3 → Refused 44 ≡ readRecord log end
-        no-octets h = refused (asked-last (failed 44 [] (lt-leb (n + 3) end h))) (λ z. omega arith)
+        pub no-octets : end < n + (t + 3) → Refused 44 ≡ readRecord log end
+        no-octets h = refused (asked-last (failed 44 [] (lt-leb (n + (t + 3)) end h))) (λ z. omega arith)
 
-        pub reads : n + 3 ≤ end → Record (logRecord (kindBefore log end) (end - (n + 3)) n) ≡ readRecord log end
+        pub reads : {k : ℕ} {time : RecordTime} → k ≡ kindOf (octetBefore log end) → time ≡ timeBefore log end → n + (t + 3) ≤ end
+            → Record (logRecord k time (end - (n + (t + 3))) n) ≡ readRecord log end
         unfolding readRecord recordBefore
-        reads h =
-            rw (ne-eqb end 0 (λ z. omega arith), ← length-is)
-            (acceptance Refused _ (asked-on (asked-last (passed 44 [] (le-leb (n + 3) end h) ended))) refl)
+        reads kind-is time-is h =
+            rw (ne-eqb end 0 (λ z. omega arith), kind-is, time-is, ← length-is, ← time-size)
+            (acceptance Refused _ (asked-on (asked-last (passed 44 [] (le-leb (n + (t + 3)) end h) ended))) refl)

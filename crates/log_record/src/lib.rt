@@ -1,9 +1,10 @@
-// The records of a log, each with its kind and length behind it: what they are, and reading one back from an end.
+// The records of a log, each with its time, if it has one, its kind and its length behind it: what they are, and reading one
+// back from an end.
 ghost use mathlib.Core.Path.{_≡_};
-ghost use Prim.Native.Nat.{_≤_, _<_};
+ghost use Prim.Native.Nat.{_+_, _≤_, _<_};
 ghost use lib.ListN.{length};
-ghost use Rattle.log_record.specs.Record.{knownKind, allowedSize};
-ghost use Rattle.log_record.specs.Read.{readRecord, payloadIn, payloadOf, ReadsWhatEnds};
+ghost use Rattle.log_record.specs.Record.{knownKind, allowedSize, timeOctets};
+ghost use Rattle.log_record.specs.Read.{timed, kindOf, octetBefore, timeBefore, readRecord, payloadIn, payloadOf, ReadsWhatEnds};
 
 // The kinds of records.
 pub const BUS: u8 = 1;
@@ -15,12 +16,25 @@ pub const ETHERNET: u8 = 3;
 // Most octets of a record.
 pub const MAX_RECORD_SIZE: usize = 1514;
 
+// By how much the octet of a kind is higher where there is a time.
+pub const TIMED: u8 = 10;
+
+// Octets of a second.
+const SECOND_SIZE: usize = 4;
+
 // Octets of a trailer: kind and length.
 pub const TRAILER_SIZE: usize = 3;
 
-// A record of a log: its kind, the place of its first octet, and how many octets it has.
+// When a record was made: the second, of 32 bits, or no time.
+pub enum RecordTime {
+    Second(u32),
+    None,
+}
+
+// A record of a log: its kind, when it was made, the place of its first octet, and how many octets it has.
 pub struct LogRecord {
     pub kind: u8,
+    pub time: RecordTime,
     pub start: usize,
     pub length: usize,
 }
@@ -50,6 +64,66 @@ pub fn allowed_size(n: usize) -> bool
     n <= MAX_RECORD_SIZE
 }
 
+// How many octets a time has in a log.
+pub fn time_size(time: RecordTime) -> usize
+    ensures { λ r. ⌜ r ≡ length (timeOctets time) ⌝ }
+{
+    match time {
+        RecordTime::Second(_) => SECOND_SIZE,
+        RecordTime::None => 0,
+    }
+}
+
+// Whether the octet of a kind says that there is a time.
+fn timed(octet: u8) -> bool
+    ensures { λ r. ⌜ r ≡ timed octet ⌝ }
+{
+    octets::within(BUS + TIMED, ETHERNET + TIMED, octet)
+}
+
+// When the record was made that ends at an end of the log; the time and the trailer have their octets before it.
+fn time_before(log: &[u8], end: usize) -> RecordTime
+    requires { ⌜ (length (timeOctets (timeBefore (now log) end)) + 3 ≤ end) × (end ≤ length (now log)) ⌝ }
+    ensures { λ r. ⌜ r ≡ timeBefore (now (log .entry)) end ⌝ }
+{
+    if timed(log[end - 3]) {
+        return RecordTime::Second(octets::number4(
+            log[end - 7],
+            log[end - 6],
+            log[end - 5],
+            log[end - 4],
+        ));
+    }
+    RecordTime::None
+}
+
+// The record of a kind and of a time of so many octets that ends at an end of the log, or the question behind 41 that fails.
+fn record_of(log: &[u8], end: usize, kind: u8, time_octets: usize) -> RecordRead
+    requires { ⌜ (3 ≤ end) × ((end ≤ length (now log)) × ((kind ≡ kindOf (octetBefore (now log) end))
+        × («time_octets» ≡ length (timeOctets (timeBefore (now log) end))))) ⌝ }
+    ensures { λ r. ⌜ r ≡ readRecord (now (log .entry)) end ⌝ }
+{
+    if !known_kind(kind) {
+        return RecordRead::Refused(42);
+    }
+    let length = octets::number(log[end - 2], log[end - 1]) as usize;
+    if !allowed_size(length) {
+        return RecordRead::Refused(43);
+    }
+    let size = length + (time_octets + TRAILER_SIZE);
+    if end < size {
+        return RecordRead::Refused(44);
+    }
+    let start = end - size;
+    let time = time_before(log, end);
+    RecordRead::Record(LogRecord {
+        kind,
+        time,
+        start,
+        length,
+    })
+}
+
 // The record that ends at an end of the log, which is above 0 and within it, or the question that fails.
 fn record_before(log: &[u8], end: usize) -> RecordRead
     requires { ⌜ (0 < end) × (end ≤ length (now log)) ⌝ }
@@ -58,24 +132,11 @@ fn record_before(log: &[u8], end: usize) -> RecordRead
     if end < TRAILER_SIZE {
         return RecordRead::Refused(41);
     }
-    let kind = log[end - 3];
-    if !known_kind(kind) {
-        return RecordRead::Refused(42);
+    let octet = log[end - 3];
+    if timed(octet) {
+        return record_of(log, end, octet - TIMED, SECOND_SIZE);
     }
-    let length = octets::number(log[end - 2], log[end - 1]) as usize;
-    if !allowed_size(length) {
-        return RecordRead::Refused(43);
-    }
-    let size = length + TRAILER_SIZE;
-    if end < size {
-        return RecordRead::Refused(44);
-    }
-    let start = end - size;
-    RecordRead::Record(LogRecord {
-        kind,
-        start,
-        length,
-    })
+    record_of(log, end, octet, 0)
 }
 
 // The record that ends at an end of the log, that the start is reached, which is so at end 0 alone, or the question that

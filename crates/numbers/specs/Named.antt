@@ -1,4 +1,4 @@
--- The numbers that callers give for rules, types, functions and forms.
+-- The numbers that callers give for rules, types, functions, forms and times.
 -- Assumes nothing.
 use Prim.Native.Nat.{ℕ}
 use mathlib.Core.Bool.{cond}
@@ -11,6 +11,8 @@ use Rattle.bip_header.specs.declared.function.BvlcFunction.{BvlcFunction}
 use Rattle.bip_header.specs.Function.{functionOf}
 use Rattle.ethernet_decode.specs.declared.EthernetForm.{EthernetForm}
 use Rattle.ethernet_decode.specs.declared.EthernetForm.the-variants.{EtherType, Length}
+use Rattle.log_record.specs.declared.RecordTime.{RecordTime}
+use Rattle.log_record.specs.declared.RecordTime.the-variants.{Second, None}
 
 -- what there is for the case of a number from 0 to the last; something else where the number names none
 unfoldable pub forCase : {A B : Type 0} → ℕ → (ℕ → A) → ℕ → (A → B) → B → B
@@ -39,3 +41,11 @@ formOf number = cond (eqb number 0) EtherType Length
 -- in the Ethernet form of a number
 abbrev pub inForm : {B : Type 0} → ℕ → (EthernetForm → B) → B → B
 inForm = forCase 1 formOf
+
+-- the time of a number, and a second: 0 no time, whatever the second is; 1 the second
+unfoldable pub timeOf : ℕ → ℕ → RecordTime
+timeOf second number = cond (eqb number 0) None (Second second)
+
+-- at the time of a number and a second
+abbrev pub atTime : {B : Type 0} → ℕ → ℕ → (RecordTime → B) → B → B
+atTime number second = forCase 1 (timeOf second) number

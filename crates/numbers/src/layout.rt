@@ -1,12 +1,24 @@
 // Results as arrays of numbers, for callers in other languages.
 use bip_header::BvlcHeader;
+use log_record::LogRecord;
+use log_record::RecordTime;
 use mstp_decode::DataCrc;
 use mstp_decode::MstpHeader;
 use mstp_frame::MSTP_HEADER_SIZE;
 use padding::PaddingState;
 use statistics::FrameStatistics;
 ghost use mathlib.Core.Path.{_≡_};
-ghost use Rattle.numbers.specs.Layout.{layoutVersion, dataCrcThere, dataCrcNumber, headerNumbers, bvlcNumbers, countNumbers};
+ghost use Rattle.numbers.specs.Layout.{
+  layoutVersion,
+  dataCrcThere,
+  dataCrcNumber,
+  headerNumbers,
+  bvlcNumbers,
+  timeThere,
+  timeNumber,
+  recordNumbers,
+  countNumbers,
+};
 ghost use Rattle.numbers.specs.State.{stateNumbers, stateOf, WhereKnown};
 ghost use Rattle.numbers.specs.declared.layout.StateRead.the-variants.{Known};
 
@@ -14,7 +26,7 @@ ghost use Rattle.numbers.specs.declared.layout.StateRead.the-variants.{K
 pub fn layout_version() -> u32
     ensures { λ r. ⌜ r ≡ layoutVersion ⌝ }
 {
-    2
+    3
 }
 
 // The same number.
@@ -84,6 +96,41 @@ pub fn bvlc_numbers(header: BvlcHeader) -> [usize; 2]
 {
     let function = header.function;
     [wide(function.to_u8()), header.length as usize]
+}
+
+// 1 if there is a time, 0 if not.
+fn time_there(time: RecordTime) -> usize
+    ensures { λ r. ⌜ r ≡ timeThere time ⌝ }
+{
+    match time {
+        RecordTime::Second(_) => 1,
+        RecordTime::None => 0,
+    }
+}
+
+// The second, or 0.
+fn time_number(time: RecordTime) -> usize
+    ensures { λ r. ⌜ r ≡ timeNumber time ⌝ }
+{
+    match time {
+        RecordTime::Second(s) => s as usize,
+        RecordTime::None => 0,
+    }
+}
+
+// The numbers of a record of a log: kind, place of its first octet, how many octets it has, 1 if there is a time else 0,
+// the second or 0.
+pub fn record_numbers(record: LogRecord) -> [usize; 5]
+    ensures { λ r. ⌜ r ≡ recordNumbers «record» ⌝ }
+{
+    let time = record.time;
+    [
+        wide(record.kind),
+        record.start,
+        record.length,
+        time_there(time),
+        time_number(time),
+    ]
 }
 
 // The numbers of a state of the search for padding: 1 if an octet came yet else 0, the last octet, its run. They name this

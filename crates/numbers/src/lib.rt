@@ -1,4 +1,4 @@
-// Rules, forms and results as numbers, for callers in other languages.
+// Rules, forms, times and results as numbers, for callers in other languages.
 mod layout;
 
 use crc::CheckRule;
@@ -9,11 +9,13 @@ pub use layout::bvlc_numbers;
 pub use layout::count_numbers;
 pub use layout::header_numbers;
 pub use layout::layout_version;
+pub use layout::record_numbers;
 pub use layout::state_numbers;
 pub use layout::state_of;
+use log_record::RecordTime;
 ghost use mathlib.Core.Path.{_≡_};
 ghost use Rattle.numbers.specs.Layout.{errorNumber};
-ghost use Rattle.numbers.specs.Named.{ruleOf, formOf};
+ghost use Rattle.numbers.specs.Named.{ruleOf, formOf, timeOf};
 
 // The largest number of a rule: 0 is Annex G, 1 the house rule.
 pub const LAST_RULE: u8 = 1;
@@ -39,6 +41,19 @@ pub fn form_of(number: u8) -> EthernetForm
         return EthernetForm::EtherType;
     }
     EthernetForm::Length
+}
+
+// The largest number of a time: 0 is no time, 1 a second.
+pub const LAST_TIME: u8 = 1;
+
+// The time of a number, 0 or 1, and a second, which 0 leaves aside; above 1 the last.
+pub fn time_of(timed: u8, second: u32) -> RecordTime
+    ensures { λ r. ⌜ r ≡ timeOf second timed ⌝ }
+{
+    if timed == 0 {
+        return RecordTime::None;
+    }
+    RecordTime::Second(second)
 }
 
 // The number of an error.

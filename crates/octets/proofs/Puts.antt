@@ -79,6 +79,12 @@ put-calls xs ys before at {m} {n} {b} {c} room place left place-2 left-2 =
 pub put-is : {xs ys before after : List ℕ} {at behind : ℕ} → xs ≡ ys → Put xs before at after behind → Put ys before at after behind
 put-is {xs} {ys} {before} {after} {at} {behind} e put = subst (λ (l : List ℕ). Put l before at after behind) e put
 
+-- what a call puts is put too by the name of an equal list
+pub put-equal : {xs ys : List ℕ} (before : List ℕ) (at : ℕ) {after : List ℕ} {r : ℕ} → xs ≡ ys
+    → (r ≡ putPlace xs before at) × (after ≡ putOutput xs before at) → (r ≡ putPlace ys before at) × (after ≡ putOutput ys before at)
+put-equal before at {after} {r} same call =
+    subst (λ (l : List ℕ). (r ≡ putPlace l before at) × (after ≡ putOutput l before at)) same call
+
 -- nothing put
 pub put-nothing : (l : List ℕ) (at : ℕ) → at ≤ length l → Put [] l at l at
 put-nothing l at room = record { place = sym (add-zero at); fits = room; list = refl }

@@ -2,11 +2,22 @@
 use log_reading::RecordsCounted;
 use log_record::LogRecord;
 use log_record::RecordRead;
+use log_record::RecordTime;
 use replay_cases::print;
+
+// Prints a time.
+fn print_time(time: RecordTime) {
+    match time {
+        RecordTime::Second(second) => print::number(second as usize, 8),
+        RecordTime::None => print::letters(b" -"),
+    }
+}
 
 // Prints a record and its payload.
 fn print_record(record: LogRecord, payload: &[u8]) {
+    let time = record.time;
     print::labelled(b"R", record.kind as usize, 2);
+    print_time(time);
     print::number(record.start, 4);
     print::number(record.length, 4);
     print::letters(b" ");

@@ -1,5 +1,6 @@
 // The calls: tools/model/calls.py says what their lines hold.
 use crate::answers;
+use log_record::RecordTime;
 use replay_cases::input;
 use replay_cases::print;
 ghost use mathlib.Core.Path.{_≡_};
@@ -49,13 +50,25 @@ fn payload(out: &mut [u8]) -> usize
     n
 }
 
+// Reads a time: a second behind the letter T, or another letter, which is no time.
+fn time() -> RecordTime {
+    if input::letter() == b'T' {
+        return RecordTime::Second(input::long_number() as u32);
+    }
+    RecordTime::None
+}
+
 // Appends a record.
 fn append(buffer: &mut [u8]) {
     let used = input::long_number();
     let kind = input::octet();
+    let time = time();
     let mut octets = space();
     let n = payload(&mut octets);
-    print::count(b"U", log_append::append(buffer, used, kind, &octets[..n]));
+    print::count(
+        b"U",
+        log_append::append(buffer, used, kind, time, &octets[..n]),
+    );
 }
 
 // Reads the record that ends at an end, and its payload.

@@ -35,9 +35,3 @@ put-up-to {xs} {before} {after} {at} {r} put =
     ap₂ (λ (n : ℕ) (l : List ℕ). take n l) (put .place) (put .list ∙ sets-eq xs before at room)
     ∙ take-at (take at before ++ xs) (drop (at + length xs) before) (at + length xs)
     (omega (arith, length-append (take at before) xs, length-take-le at before (omega arith)))
-
--- what a call puts is put too by the name of an equal text
-pub put-equal : {xs ys : List ℕ} (before : List ℕ) (at : ℕ) {after : List ℕ} {r : ℕ} → xs ≡ ys
-    → (r ≡ putPlace xs before at) × (after ≡ putOutput xs before at) → (r ≡ putPlace ys before at) × (after ≡ putOutput ys before at)
-put-equal before at {after} {r} same call =
-    subst (λ (l : List ℕ). (r ≡ putPlace l before at) × (after ≡ putOutput l before at)) same call

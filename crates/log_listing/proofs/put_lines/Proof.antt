@@ -45,7 +45,7 @@ put-record-line-requires : tie.Need-put-record-line-requires Inv-loop μ-loop
 put-record-line-requires c κs =
     let read = c .before .before .before in
     let loop = read .before .before .before in
-    subst (λ (payload : List ℕ). (length payload ≤ 1514) × (loop .loop .at + length (recordLine (read .«record» .given .0 .0 .kind) payload) ≤ length (loop .loop .out)))
+    subst (λ (payload : List ℕ). (length payload ≤ 1514) × (loop .loop .at + length (recordLine (read .«record» .given .0 .0 .kind) (read .«record» .given .0 .0 .time) payload) ≤ length (loop .loop .out)))
     (sym (c .before .payload-in .ensures)) (payload-most _ (loop .loop .end) (found read), line-room _ _ (loop .before .before .before .pre) _ (loop .loop .inv) (found read))
 
 loop-less : tie.Need-loop-less Inv-loop μ-loop
@@ -57,7 +57,7 @@ loop-again c =
     let loop = read .before .before .before in
     let call = c .before .before .put-record-line in
     line-put _ _ (loop .before .before .before .pre) _ (loop .loop .inv) (found read)
-    (subst (λ (payload : List ℕ). Put (recordLine (read .«record» .given .0 .0 .kind) payload) (loop .loop .out) (loop .loop .at) (call .last .1 .1 .0) (call .result))
+    (subst (λ (payload : List ℕ). Put (recordLine (read .«record» .given .0 .0 .kind) (read .«record» .given .0 .0 .time) payload) (loop .loop .out) (loop .loop .at) (call .last .1 .1 .1 .0) (call .result))
     (c .before .before .before .before .payload-in .ensures) (call .ensures))
 
 enum-told : tie.Need-enum-told Inv-loop μ-loop

@@ -1,7 +1,8 @@
--- `log_record::record_before` meets its contract: a law for each return.
+-- `log_record::record_before` meets its contract: the octet tells the kind and how many octets the time has.
 -- Assumes nothing.
-use Rattle.log_record.proofs.Read.{no-trailer, no-kind, no-size, no-octets, reads}
-use borrow.Author.Tests.{not-true, not-false}
+use mathlib.Core.Path.{sym}
+use Rattle.log_record.proofs.KindOctet.{ten-most, kind-timed, kind-plain, four-octets, no-octet}
+use Rattle.log_record.proofs.Read.{no-trailer}
 use borrow.Author.Needs.{needs}
 use Rattle.log_record.proofs.record_before.Statement.{statement}
 use Rattle.log_record.proofs.record_before.Tie as tie
@@ -9,38 +10,20 @@ use Rattle.log_record.proofs.record_before.Tie as tie
 returns : tie.Need-returns
 returns c = let s = c .before .before in no-trailer _ _ (s .pre .0) (s .pre .1) (c .if1 .taken)
 
-returns-2 : tie.Need-returns-2
-returns-2 c =
-    let k = c .before in
-    let e = k .before .before in
-    let s = e .before .before in
-    no-kind _ _ (s .pre .0) (s .pre .1) (e .if1 .left) (k .known-kind .ensures) (not-true _ (c .if2 .taken))
+sub-record-of : tie.Need-sub-record-of
+sub-record-of c = ten-most _ (c .before .timed .ensures) (c .if2 .taken)
 
-returns-3 : tie.Need-returns-3
-returns-3 c =
-    let p = c .before in
-    let n = p .before in
-    let f = n .before .before .before in
-    let k = f .before in
-    let e = k .before .before in
-    let s = e .before .before in
-    no-size _ _ (s .pre .0) (s .pre .1) (e .if1 .left) (k .known-kind .ensures) (not-false _ (f .if2 .left)) (n .number .ensures) (p .allowed-size .ensures) (not-true _ (c .if3 .taken))
+record-of-requires : tie.Need-record-of-requires
+record-of-requires c κs =
+    let asked = c .before .timed .ensures in
+    let e = c .before .before .before in
+    (e .if1 .left, (e .before .before .pre .1, (kind-timed _ asked (c .if2 .taken), sym (four-octets _ _ asked (c .if2 .taken)))))
 
-returns-4 : tie.Need-returns-4
-returns-4 c =
-    let number = c .before .before .before in
-    let kind = number .before .before .before .before in
-    let start = kind .before .before in
-    no-octets _ _ (start .before .before .pre .0) (start .before .before .pre .1) (start .if1 .left) (kind .known-kind .ensures) (not-false _ (number .before .before .before .if2 .left)) (number .number .ensures) (c .before .before .allowed-size .ensures) (not-false _ (c .before .if3 .left))
-    (c .if4 .taken)
-
-returns-5 : tie.Need-returns-5
-returns-5 c =
-    let number = c .before .before .before in
-    let kind = number .before .before .before .before in
-    let start = kind .before .before in
-    reads _ _ (start .before .before .pre .0) (start .before .before .pre .1) (start .if1 .left) (kind .known-kind .ensures) (not-false _ (number .before .before .before .if2 .left)) (number .number .ensures) (c .before .before .allowed-size .ensures) (not-false _ (c .before .if3 .left))
-    (c .if4 .left)
+record-of-requires-2 : tie.Need-record-of-requires-2
+record-of-requires-2 c κs =
+    let asked = c .before .timed .ensures in
+    let e = c .before .before .before in
+    (e .if1 .left, (e .before .before .pre .1, (kind-plain _ asked (c .if2 .left), sym (no-octet _ _ asked (c .if2 .left)))))
 
 pub record-before-spec : {M : Type 1} → statement M
 record-before-spec =
@@ -48,10 +31,8 @@ record-before-spec =
     (tie.spec
     returns
     (λ c. search needs) (λ c κs. search needs)
-    returns-2
-    (λ c. search needs) (λ c. search needs) (λ c. search needs) (λ c. search needs) (λ c κs. search needs)
-    (λ c. search needs) (λ c κs. search needs)
-    returns-3
+    sub-record-of
+    record-of-requires
     (λ c. search needs)
-    returns-4
-    returns-5)
+    record-of-requires-2
+    (λ c. search needs))

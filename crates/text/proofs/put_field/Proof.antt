@@ -7,10 +7,10 @@ use native.Mathlib.Omega.{arith}
 use lib.ListN.{length, take}
 use Rattle.io.proofs.Counting.{counts}
 use Rattle.octets.specs.Put.{Put}
-use Rattle.octets.proofs.Puts.{put-call, put-size}
+use Rattle.octets.proofs.Puts.{put-call, put-size, put-equal}
 use Rattle.text.specs.Text.{letters, decimal, field}
 use Rattle.text.proofs.Decimals.{fewest-decimal, length-field}
-use Rattle.text.proofs.Texts.{put-up-to, put-equal}
+use Rattle.text.proofs.Texts.{put-up-to}
 use borrow.Author.Needs.{needs}
 use Rattle.text.proofs.put_field.Statement.{statement}
 use Rattle.text.proofs.put_field.Tie as tie

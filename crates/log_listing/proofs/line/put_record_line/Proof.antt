@@ -15,13 +15,13 @@ put-line-requires : tie.Need-put-line-requires
 put-line-requires c κs =
     let start = c .before .before .before .before .before in
     subst (λ (text : List ℕ). start .args .at + length text ≤ length (now (start .args .out)))
-    (sym (line-is (start .args .kind) (now (start .args .payload)) (c .before .before .valid .ensures) (c .before .frames .ensures))) (start .pre .1)
+    (sym (line-is (start .args .kind) (start .args .time) (now (start .args .payload)) (c .before .before .valid .ensures) (c .before .frames .ensures))) (start .pre .1)
 
 returns : tie.Need-returns
 returns c =
     let start = c .before .before .before .before .before .before .before .before in
-    subst (λ (text : List ℕ). Put text (now (start .args .out)) (start .args .at) (c .before .before .put-line .last .1 .1 .1 .1 .0) (c .before .before .put-line .result))
-    (line-is (start .args .kind) (now (start .args .payload)) (c .before .before .before .before .before .valid .ensures) (c .before .before .before .before .frames .ensures))
+    subst (λ (text : List ℕ). Put text (now (start .args .out)) (start .args .at) (c .before .before .put-line .last .1 .1 .1 .1 .1 .0) (c .before .before .put-line .result))
+    (line-is (start .args .kind) (start .args .time) (now (start .args .payload)) (c .before .before .before .before .before .valid .ensures) (c .before .before .before .before .frames .ensures))
     (c .before .before .put-line .ensures)
 
 pub put-record-line-spec : {M : Type 1} → statement M
