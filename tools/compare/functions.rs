@@ -21,7 +21,9 @@ pub struct Function {
     // behind a run of 0, so with a second equal to the first, s4 with the same behind a longer run, s5
     // behind the highest count; u256 checks that use all entries of a table, by the reasons 1 Annex G's
     // and 2 the house rule's; f an answer by the form of Ethernet frames, EtherType or, reason 1, Length; b
-    // what is behind the octets that a length counts, 1 nothing, 2 zeros, 3 others.
+    // what is behind the octets that a length counts, 1 nothing, 2 zeros, 3 others; g a random log, 1
+    // as it was written, 2 cut at its front, 3 with octets changed, 4 both; t an answer by the time of a
+    // record, none or, reason 1, a second, whose octets are not all there for reason 2.
     pub answers: &'static [u8],
     pub sights: &'static str,
     pub compare: fn(&mut Tally, &mut Random),
@@ -42,6 +44,8 @@ const STATES: &str = "c0 c1 c2 c3 c4 c5";
 const ENTRIES: &str = "u256.1 u256.2";
 const FORMS_READ: &str = "f0 f21 f22 f23 f0.1 f21.1 f24.1 f61.1 f62.1 f23.1 b1 b2 b3";
 const FORMS_WRITTEN: &str = "f0 f24 f25 f0.1 f24.1 f25.1";
+const RECORDS_READ: &str = "g1 g2 g3 g4 t0 t42 t43 t44 t0.1 t43.1 t44.1 t44.2";
+const RECORDS_WRITTEN: &str = "t0 t42 t43 t46 t47 t0.1 t42.1 t43.1 t46.1 t47.1";
 
 // Each by its name, answers, what its results have, and comparison.
 macro_rules! functions {
@@ -79,8 +83,8 @@ pub const ALL: &[Function] = functions! {
     "find_frame" [0, 31, 33, NONE, NO_CASE], "", finder::find_frame;
     "count_frames" [0, 31, NO_CASE], "", readings::count_frames;
     "read_frames" [0, 31, 32, NO_CASE], DEMAND_3, readings::read_frames;
-    "read_record" [0, 41, 42, 43, 44, 47, NONE], "", log::read_record;
-    "append" [0, 42, 43, 46, 47], "", log::append;
+    "read_record" [0, 41, 42, 43, 44, 47, NONE], RECORDS_READ, log::read_record;
+    "append" [0, 42, 43, 46, 47, NO_CASE], RECORDS_WRITTEN, log::append;
     "padding_step" [0, NO_CASE], STEPS, padding::step;
     "padding_length" [0, NO_CASE], STATES, padding::length;
     "header_table" [0, NO_CASE], ENTRIES, check_tables::header;

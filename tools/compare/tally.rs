@@ -45,7 +45,8 @@ impl Tally {
         }
     }
 
-    // Begins with the next form of a function: under sabotage, it is changed in each way anew.
+    // Begins with the next form of a function, or without a time and with one: under sabotage, it is
+    // changed in each way anew.
     pub fn next_form(&mut self) {
         if let Some(spoiler) = &mut self.spoiler {
             spoiler.again();
@@ -94,10 +95,13 @@ impl Tally {
         if self.inputs < LEAST {
             gaps.push(format!("only {} inputs", self.inputs));
         }
-        if sights.starts_with('f') {
-            let counts = [0, 1].map(|form| (form, self.of_form(form)));
+        // Answers by a form or a time: each of the two has enough inputs of its own.
+        if let Some(letter @ ('f' | 't')) = sights.chars().next() {
+            let counts = [0, 1].map(|reason| (reason, self.with_reason(letter, reason)));
             let few = counts.iter().filter(|(_, count)| *count < LEAST);
-            gaps.extend(few.map(|(form, count)| format!("only {count} inputs of form {form}")));
+            gaps.extend(few.map(|(reason, count)| {
+                format!("only {count} inputs of {letter}, reason {reason}")
+            }));
         }
         let unseen = |answer: &&u8| self.answers[usize::from(**answer)] == 0;
         let missing = answers.iter().filter(unseen);
@@ -114,10 +118,10 @@ impl Tally {
         gaps
     }
 
-    // How many inputs had a form.
-    fn of_form(&self, form: usize) -> u64 {
+    // How many inputs had sights of a letter with a reason.
+    fn with_reason(&self, letter: char, reason: usize) -> u64 {
         let counts = self.sights.iter();
-        let counts = counts.filter(|((letter, _, reason), _)| (*letter, *reason) == ('f', form));
+        let counts = counts.filter(|((of, _, with), _)| (*of, *with) == (letter, reason));
         counts.map(|(_, count)| count).sum()
     }
 

@@ -72,5 +72,5 @@ in_memory! {
         let pairs: Vec<[usize; 2]> = reports.iter().map(|report| (*report).into()).collect();
         counted(pairs.as_flattened(), reports.len())
     };
-    Record: record => vec![numbers(&[record.kind.into(), record.place, record.length])];
+    Record: record => vec![numbers(&record.numbers())];
 }

@@ -18,6 +18,9 @@ OBJECT = bytes.fromhex("0c000000011955")
 # A Who-Is request for all networks.
 WHO_IS = bytes.fromhex("0120ffff00ff1008")
 
+# The second when the controller's clock was set. What it had heard before has no time.
+CLOCK_SET = 1_790_000_000
+
 
 def token(source, destination):
     """The token, handed on."""
@@ -68,10 +71,10 @@ def records(chance):
     yield BUS, frame("g", POLL_FOR_MASTER, CONTROLLER + 1, CONTROLLER)
     yield IP, message(0x0B, WHO_IS)
     heard = [spark(chance), *third[:2], broken(chance, third[2]), third[3], spark(chance), *third[4:], spark(chance)]
-    yield BUS, b"".join(heard)
-    yield ETHERNET, broadcast(WHO_IS)
-    yield BUS, chance.octets(40)
-    yield BUS, told(DRY_END, 8, 14.7)
+    yield BUS, b"".join(heard), CLOCK_SET + 30
+    yield ETHERNET, broadcast(WHO_IS), CLOCK_SET + 60
+    yield BUS, chance.octets(40), CLOCK_SET + 61
+    yield BUS, told(DRY_END, 8, 14.7), CLOCK_SET + 65
 
 
 def torn_log(chance):

@@ -38,8 +38,20 @@ EACH_KIND = [
     (ETHERNET, TOKEN),
 ]
 
-# As long as is listed, and one octet more.
-FULL = [(BUS, (DATA * 101)[: MOST - 1 - n % 2]) for n in range(43)]
+# Records with a time, among others: each kind, the lowest and the highest second, one whose octets differ, the longest.
+TIMED = [
+    (BUS, TOKEN, 0),
+    (BUS, TOKEN),
+    (IP, IP_MESSAGE, 1),
+    (ETHERNET, ETHERNET_FRAME),
+    (ETHERNET, ETHERNET_FRAME, 0xFFFFFFFF),
+    (BUS, DATA[:-1], 0x01020304),
+    (IP, IP_MESSAGE),
+    (ETHERNET, ethernet_frame(bytes(6), bytes(6), bytes(MOST - 17)), 0xFFFFFFFF),
+]
+
+# As long as is listed, and one octet more. Every second record has a time.
+FULL = [(BUS, (DATA * 101)[: MOST - 1 - n % 2], n if n % 2 else None) for n in range(43)]
 REST = MOST_IN_ALL - len(written(FULL)) - TRAILER
 FULL_LOG = record(BUS, (TOKEN * 100)[:REST]) + written(FULL)
 assert len(FULL_LOG) == MOST_IN_ALL
@@ -65,6 +77,7 @@ def named(dryer, chance):
         "empty": b"",
         "dryer": dryer,
         "kinds": written(EACH_KIND),
+        "timed": written(TIMED),
         "sparks": written(sparks(chance)),
         "smallest": written([(BUS, b"\x55"), (IP, b"\x81"), (ETHERNET, b"\x00")]),
         "stopped-41-one": b"\x08" + EXAMPLE,
@@ -72,10 +85,17 @@ def named(dryer, chance):
         "stopped-42-kind-0": TOKEN + b"\x00\x00\x08" + EXAMPLE,
         "stopped-42-kind-4": TOKEN + b"\x04\x00\x08" + EXAMPLE,
         "stopped-42-three-octets": b"\x00\x00\x00",
+        "stopped-42-octet-0A": TOKEN + b"\x00\x00\x00\x01\x0a\x00\x08" + EXAMPLE,
+        "stopped-42-octet-0E": TOKEN + b"\x00\x00\x00\x01\x0e\x00\x08" + EXAMPLE,
         "stopped-43-none": b"\x01\x00\x00" + EXAMPLE,
         "stopped-43-1515": record(BUS, bytes(MOST + 1)) + EXAMPLE,
+        "stopped-43-timed-none": record(BUS, b"", 1) + EXAMPLE,
+        "stopped-43-timed-1515": record(BUS, bytes(MOST + 1), 1) + EXAMPLE,
         "stopped-44-one-short": TOKEN[1:] + b"\x01\x00\x08" + EXAMPLE,
         "stopped-44-all": b"\x01\x05\xea",
+        "stopped-44-timed-one-short": record(BUS, TOKEN, 1)[1:] + EXAMPLE,
+        "stopped-44-part-of-a-time": record(BUS, TOKEN, 1)[len(TOKEN) + 2 :] + EXAMPLE,
+        "stopped-44-timed-all": b"\x0b\x00\x01",
         "length-low-octet-first": TOKEN + b"\x01\x08\x00" + EXAMPLE,
         "full": FULL_LOG,
         "long": b"\x00" + FULL_LOG,

@@ -1,12 +1,15 @@
 // Logs: records one behind another, and what is left of them.
 
-use shared::model::log::record;
+use shared::model::log::{record, Time};
 use shared::random::Random;
 
 use crate::inputs::{one_in, one_of};
 
 // Lengths of records at the borders.
 pub const BORDERS: [usize; 12] = [0, 1, 2, 3, 255, 256, 257, 1512, 1513, 1514, 1515, 1516];
+
+// Seconds at the borders, and one whose octets differ.
+const SECONDS: [u32; 4] = [0, 1, 0x0102_0304, u32::MAX];
 
 // How many octets a record has.
 pub fn length(random: &mut Random) -> usize {
@@ -17,38 +20,70 @@ pub fn length(random: &mut Random) -> usize {
     }
 }
 
-// A kind of record, seldom none.
+// A kind of record, seldom none; the octets of kinds with a time are none.
 pub fn kind(random: &mut Random) -> u8 {
     match random.below(12) {
-        0 => one_of(&[0, 4, 255, random.octet()], random),
+        0 => one_of(&[0, 4, 10, 11, 12, 13, 14, 255, random.octet()], random),
         _ => 1 + random.below(3) as u8,
     }
 }
 
-// Some records, at times with octets changed or the front torn, and the ends to read from: those of
-// records, one beside them, any, and beyond the log.
-pub fn log(random: &mut Random) -> (Vec<u8>, Vec<usize>) {
-    let mut log = Vec::new();
+// A second.
+pub fn second(random: &mut Random) -> u32 {
+    match random.below(8) {
+        0 => one_of(&SECONDS, random),
+        _ => random.wide() as u32,
+    }
+}
+
+// A second, or as often no time.
+fn time(random: &mut Random) -> Time {
+    one_in(2, random).then(|| second(random))
+}
+
+pub struct Log {
+    pub octets: Vec<u8>,
+    // Whether its front is cut off, and whether octets are changed.
+    pub cut: bool,
+    pub changed: bool,
+    // An end: that of a record, one beside it, any, or one beyond the log.
+    pub end: usize,
+}
+
+// Some records, with a time and without one. One log in two is cut at any place, and one in two has
+// octets changed.
+pub fn log(random: &mut Random) -> Log {
+    let mut octets = Vec::new();
     let mut ends = vec![0];
-    let count = random.below(7);
+    let count = 1 + random.below(6);
     for _ in 0..count {
         let length = length(random);
         let payload = random.octets(length);
-        log.extend(record(kind(random), &payload));
-        ends.push(log.len());
+        octets.extend(record(kind(random), time(random), &payload));
+        ends.push(octets.len());
     }
-    if one_in(4, random) {
-        let torn = random.below(log.len() + 1);
-        log.drain(..torn);
-        ends = ends.iter().map(|end| end.saturating_sub(torn)).collect();
+    let cut = one_in(2, random);
+    let torn = match cut {
+        true => 1 + random.below(octets.len()),
+        false => 0,
+    };
+    octets.drain(..torn);
+    let changed = one_in(2, random) && !octets.is_empty();
+    if changed {
+        random.damage(&mut octets);
     }
-    if one_in(4, random) && !log.is_empty() {
-        random.damage(&mut log);
+    let end = one_of(&ends, random).saturating_sub(torn);
+    let end = match random.below(5) {
+        0 => end,
+        1 => end + 1,
+        2 => end.saturating_sub(1),
+        3 => random.below(octets.len() + 4),
+        _ => one_of(&[octets.len() + 1, 1 << 32, usize::MAX], random),
+    };
+    Log {
+        octets,
+        cut,
+        changed,
+        end,
     }
-    let end = one_of(&ends, random);
-    ends.push(end + 1);
-    ends.push(end.saturating_sub(1));
-    ends.push(random.below(log.len() + 4));
-    ends.push(one_of(&[log.len() + 1, 1 << 32, usize::MAX], random));
-    (log, ends)
 }
