@@ -6,7 +6,8 @@
 
    Answers: 0 where there is a result, and then it stands in the lent memory. Else the number of the first question that
    fails (they are listed below), LEFKANU_NONE, or, before any question is asked, LEFKANU_NO_CASE where a number names no
-   rule, form, type, function or state; then nothing was written. Only lefkanu_layout_version answers something else.
+   rule, form, type, function, time or state; then nothing was written. Only lefkanu_layout_version answers something
+   else.
 
    Rules: LEFKANU_ANNEX_G or LEFKANU_HOUSE, whose octets are those of bacnet-rs. The rule decides the check octets, and
    one warning of the validators.
@@ -15,13 +16,17 @@
    LEFKANU_FORM_LENGTH: the length field of clause 7, which is the count of LLC and payload octets (payload plus 3), high
    octet first. No frame has both forms.
 
+   Times of a record in a log: LEFKANU_NO_TIME, or LEFKANU_SECOND and the second in which it was made. The second 0 is a
+   time like any other.
+
    Layout: how many numbers a caller lends by each pointer, and which number stands where. Its version is raised with
    each change. LEFKANU_LAYOUT_VERSION is the one that a program is compiled for, and lefkanu_layout_version answers that
    of the library that it is linked with. Where they differ, call no other function, and compile the program anew.
 
-   Version 2: counts has five numbers; the fifth is the start of the longest run. Version 1: counts had four, and there
-   was nothing to ask for a version. What was compiled for it must be compiled anew: it lends four numbers, and a fifth
-   is written after them. */
+   Version 3: record has five numbers, of which the last two are its time, and lefkanu_append is given a time as well.
+   Version 2: record had three; counts has five, and the fifth is the start of the longest run. Version 1: counts had
+   four, and there was nothing to ask for a version. What was compiled for an older version must be compiled anew: it
+   lends three or four numbers, and others are written after them. */
 #ifndef LEFKANU_H
 #define LEFKANU_H
 
@@ -33,7 +38,7 @@ extern "C" {
 #endif
 
 /* The version of the layout: here, and as the library answers it. */
-#define LEFKANU_LAYOUT_VERSION 2
+#define LEFKANU_LAYOUT_VERSION 3
 uint32_t lefkanu_layout_version(void);
 
 /* Rules. */
@@ -43,6 +48,10 @@ uint32_t lefkanu_layout_version(void);
 /* Forms of an Ethernet frame. */
 #define LEFKANU_FORM_ETHER_TYPE 0
 #define LEFKANU_FORM_LENGTH 1
+
+/* Times of a record. */
+#define LEFKANU_NO_TIME 0
+#define LEFKANU_SECOND 1
 
 /* The questions in words. docs/QUESTIONS.md says who asks which, and in which order. Octet values and BVLC functions
    are hexadecimal, all else is decimal.
@@ -82,14 +91,14 @@ uint32_t lefkanu_layout_version(void);
    The log:
    47  end within the log, used count within the buffer?
    41  three octets left?
-   42  kind 1 to 3?
-   43  length 1 to 1514?
-   44  that many octets before the trailer?
-   46  does the record fit the buffer?
+   42  kind 1 to 3, in reading also 11 to 13?
+   43  payload length 1 to 1514?
+   44  do payload and time fit before the trailer?
+   46  does the record fit the buffer, with its time?
 
    Answers that are no question:
    FE  LEFKANU_NONE: the finder's "none", the log's "start reached"
-   FF  LEFKANU_NO_CASE: a number names no rule, form, frame type, function or state */
+   FF  LEFKANU_NO_CASE: a number names no rule, form, frame type, function, time or state */
 #define LEFKANU_NONE 0xFE
 #define LEFKANU_NO_CASE 0xFF
 
@@ -232,17 +241,21 @@ uint8_t lefkanu_count_frames(uint8_t rule, const uint8_t *run, size_t run_octets
 uint8_t lefkanu_read_frames(uint8_t rule, const uint8_t *run, size_t run_octets, uint32_t *out, size_t out_numbers,
                             size_t *count);
 
-/* Logs. */
+/* Logs. A record is its payload, its time, if it has one, and its trailer. The time is the second, four octets; the
+   trailer is the kind, one octet (1 bus, 2 IP, 3 Ethernet; 11, 12 and 13 for these if there is a time), and the length
+   of the payload, two octets. High octets come first. */
 
-/* The record that ends at an end of the log. record: kind (1 bus, 2 IP, 3 Ethernet), place of its first octet, how many
-   octets; the next older record ends at that place. LEFKANU_NONE where the log's start is reached. Questions 47 and 41 to
-   44. */
-uint8_t lefkanu_read_record(const uint8_t *log, size_t log_octets, size_t end, size_t record[3]);
+/* The record that ends at an end of the log. record: kind (1 to 3, also if there is a time), place of its first octet,
+   how many octets its payload has, LEFKANU_SECOND if there is a time else LEFKANU_NO_TIME, the second or 0. The next
+   older record ends at the place of its first octet. LEFKANU_NONE where the log's start is reached. Questions 47 and 41
+   to 44. */
+#define LEFKANU_RECORD_NUMBERS 5
+uint8_t lefkanu_read_record(const uint8_t *log, size_t log_octets, size_t end, size_t record[5]);
 
-/* Writes a record after the first `used` octets of a buffer, and nothing else; new_used: how many are used now.
-   Questions 47, 42, 43 and 46. */
-uint8_t lefkanu_append(uint8_t *buffer, size_t buffer_octets, size_t used, uint8_t kind, const uint8_t *payload,
-                       size_t payload_octets, size_t *new_used);
+/* Writes a record after the first `used` octets of a buffer, and nothing else; new_used: how many are used now. kind: 1
+   to 3. timed: LEFKANU_SECOND, or LEFKANU_NO_TIME, and then second is not looked at. Questions 47, 42, 43 and 46. */
+uint8_t lefkanu_append(uint8_t *buffer, size_t buffer_octets, size_t used, uint8_t kind, uint8_t timed, uint32_t second,
+                       const uint8_t *payload, size_t payload_octets, size_t *new_used);
 
 #ifdef __cplusplus
 }

@@ -1,5 +1,6 @@
-/* read_log LOG [house]: reads a log from its end and prints each record's kind, and of a bus record's frames the source
-   and the data. Checks are by the Annex G rule, or by the house rule. Last comes what ended the reading. */
+/* read_log LOG [house]: reads a log from its end and prints each record's kind and time, the second or -, and of a bus
+   record's frames the source and the data. Checks are by the Annex G rule, or by the house rule. Last comes what ended
+   the reading. */
 #include "../lefkanu.h"
 
 #include <errno.h>
@@ -65,12 +66,15 @@ static uint8_t list_frames(uint8_t rule, const uint8_t *run, size_t octets)
 static uint8_t list_records(uint8_t rule, const uint8_t *log, size_t octets)
 {
     static const char *const kinds[] = {"", "bus", "ip", "ethernet"};
-    size_t end = octets, record[3];
+    size_t end = octets, record[LEFKANU_RECORD_NUMBERS];
     for (;;) {
         uint8_t answer = lefkanu_read_record(log, octets, end, record);
         if (answer != 0)
             return answer;
-        printf("%s\n", kinds[record[0]]);
+        if (record[3] == LEFKANU_SECOND)
+            printf("%s %zu\n", kinds[record[0]], record[4]);
+        else
+            printf("%s -\n", kinds[record[0]]);
         if (record[0] == 1) {
             answer = list_frames(rule, log + record[1], record[2]);
             if (answer != 0)

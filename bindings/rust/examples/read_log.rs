@@ -1,5 +1,6 @@
-//! read_log LOG [house]: reads a log from its end and prints each record's kind, and of a bus record's frames the source
-//! and the data. Checks are by the Annex G rule, or by the house rule. Last comes what ended the reading.
+//! read_log LOG [house]: reads a log from its end and prints each record's kind and time, the second or -, and of a bus
+//! record's frames the source and the data. Checks are by the Annex G rule, or by the house rule. Last comes what ended
+//! the reading.
 
 use lefkanu::datalink::mstp::decode_header;
 use lefkanu::datalink::Result;
@@ -46,11 +47,13 @@ pub fn listing(rule: CheckRule, log: &[u8]) -> String {
 }
 
 fn list_record(rule: CheckRule, record: &Record, lines: &mut String) -> Result<()> {
-    *lines += match record.kind {
-        RecordKind::Bus => "bus\n",
-        RecordKind::Ip => "ip\n",
-        RecordKind::Ethernet => "ethernet\n",
+    let kind = match record.kind {
+        RecordKind::Bus => "bus",
+        RecordKind::Ip => "ip",
+        RecordKind::Ethernet => "ethernet",
     };
+    let second = record.time.map_or("-".into(), |second| second.to_string());
+    *lines += &format!("{kind} {second}\n");
     if record.kind == RecordKind::Bus {
         for report in Frames::new(rule, record.payload) {
             let (header, data) = decode_header(rule, &record.payload[report?.range()])?;

@@ -74,18 +74,18 @@ pub type Result<T> = std::result::Result<T, DataLinkError>;
 /// |---|---|
 /// | 47 | end within the log, used count within the buffer? |
 /// | 41 | three octets left? |
-/// | 42 | kind 1 to 3? |
-/// | 43 | length 1 to 1514? |
-/// | 44 | that many octets before the trailer? |
-/// | 46 | does the record fit the buffer? |
+/// | 42 | kind 1 to 3, in reading also 11 to 13? |
+/// | 43 | payload length 1 to 1514? |
+/// | 44 | do payload and time fit before the trailer? |
+/// | 46 | does the record fit the buffer, with its time? |
 ///
 /// Two answers of the C functions are no question and no error here. FE is `Ok(None)`; FF does not occur, since the enums
-/// have only cases that the library knows, and every `PaddingState` is a state:
+/// have only cases that the library knows, every `Option<u32>` is a time, and every `PaddingState` is a state:
 ///
 /// | answer | name | what it says |
 /// |---|---|---|
 /// | FE | `LEFKANU_NONE` | the finder's "none", the log's "start reached" |
-/// | FF | `LEFKANU_NO_CASE` | a number names no rule, form, frame type, function or state |
+/// | FF | `LEFKANU_NO_CASE` | a number names no rule, form, frame type, function, time or state |
 #[derive(Debug, Clone, Copy, PartialEq, Eq, Hash)]
 pub enum DataLinkError {
     /// Octets that are no such frame or message, or too many to be written.

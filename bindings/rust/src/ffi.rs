@@ -1,7 +1,7 @@
 //! The functions of the static library, as bindings/c/lefkanu.h has them.
 
 // The version of the layout that is declared here.
-pub const LAYOUT_VERSION: u32 = 2;
+pub const LAYOUT_VERSION: u32 = 3;
 
 // What is answered beside 0 and the numbers of questions.
 pub const NONE: u8 = 0xFE;
@@ -12,10 +12,16 @@ pub const NPDU: usize = 1;
 pub const TIME_TO_LIVE: usize = 2;
 pub const NO_NPDU: usize = 3;
 
-// How many numbers a validator's result has, statistics beside the distribution, and a state of the padding search.
+// The time of a record: none, or a second.
+pub const NO_TIME: u8 = 0;
+pub const SECOND: u8 = 1;
+
+// How many numbers a validator's result has, statistics beside the distribution, a state of the padding search, and a
+// record of a log.
 pub const RESULT_NUMBERS: usize = 32;
 pub const COUNT_NUMBERS: usize = 5;
 pub const PADDING_NUMBERS: usize = 3;
+pub const RECORD_NUMBERS: usize = 5;
 
 // How many entries a check table has.
 pub const TABLE_ENTRIES: usize = 256;
@@ -199,7 +205,7 @@ extern "C" {
         log: *const u8,
         log_octets: usize,
         end: usize,
-        record: *mut [usize; 3],
+        record: *mut [usize; RECORD_NUMBERS],
     ) -> u8;
 
     pub fn lefkanu_append(
@@ -207,6 +213,8 @@ extern "C" {
         buffer_octets: usize,
         used: usize,
         kind: u8,
+        timed: u8,
+        second: u32,
         payload: *const u8,
         payload_octets: usize,
         new_used: *mut usize,

@@ -1,4 +1,4 @@
-//! The log: records, each with its kind and length after it.
+//! The log: records, each with its time, if it has one, its kind and its length after it.
 
 use crate::error::{DataLinkError, Result};
 use crate::raw;
@@ -25,6 +25,8 @@ impl TryFrom<u8> for RecordKind {
 pub struct Record<'a> {
     /// What its octets are.
     pub kind: RecordKind,
+    /// The second when it was made; none where it has no time.
+    pub time: Option<u32>,
     /// The place of its first octet: the next older record ends there.
     pub start: usize,
     /// Its octets.
@@ -36,36 +38,49 @@ pub struct Record<'a> {
 /// ```
 /// use lefkanu::log::{read_record, RecordKind};
 ///
-/// let log = [0xAA, 0xBB, 1, 0, 2, 0xCC, 2, 0, 1];
+/// // The kind of a record with a time is 11, 12 or 13 there, and the second stands before it.
+/// let log = [0xAA, 0xBB, 1, 0, 2, 0xCC, 0, 0, 1, 4, 12, 0, 1];
 /// let newest = read_record(&log, log.len())?.unwrap();
-/// assert_eq!((newest.kind, newest.start, newest.payload), (RecordKind::Ip, 5, &[0xCC][..]));
+/// assert_eq!((newest.kind, newest.time), (RecordKind::Ip, Some(260)));
+/// assert_eq!((newest.start, newest.payload), (5, &[0xCC][..]));
+/// let oldest = read_record(&log, newest.start)?.unwrap();
+/// assert_eq!((oldest.kind, oldest.time), (RecordKind::Bus, None));
 /// # Ok::<(), lefkanu::datalink::DataLinkError>(())
 /// ```
 pub fn read_record(log: &[u8], end: usize) -> Result<Option<Record<'_>>> {
-    let Some([kind, start, count]) = raw::read_record(log, end)? else {
+    let Some([kind, start, count, timed, second]) = raw::read_record(log, end)? else {
         return Ok(None);
     };
     Ok(Some(Record {
         // Reading has asked question 42 already.
         kind: RecordKind::try_from(kind as u8)?,
+        time: (timed == 1).then_some(second as u32),
         start,
         payload: &log[start..start + count],
     }))
 }
 
-/// Writes a record after the first `used` octets of a buffer, and nothing else; answers how many are used now. Refused
-/// with 47, 43 or 46, and then nothing is written.
+/// Writes a record after the first `used` octets of a buffer, and nothing else; answers how many are used now. The time
+/// is the second when it was made, or none. Refused with 47, 43 or 46, and then nothing is written.
 ///
 /// ```
 /// use lefkanu::log::{append, RecordKind};
 ///
-/// let mut buffer = [0; 10];
-/// let used = append(&mut buffer, 0, RecordKind::Bus, &[0xAA, 0xBB])?;
+/// let mut buffer = [0; 20];
+/// let used = append(&mut buffer, 0, RecordKind::Bus, None, &[0xAA, 0xBB])?;
 /// assert_eq!(buffer[..used], [0xAA, 0xBB, 1, 0, 2]);
+/// let new_used = append(&mut buffer, used, RecordKind::Bus, Some(260), &[0xCC])?;
+/// assert_eq!(buffer[used..new_used], [0xCC, 0, 0, 1, 4, 11, 0, 1]);
 /// # Ok::<(), lefkanu::datalink::DataLinkError>(())
 /// ```
-pub fn append(buffer: &mut [u8], used: usize, kind: RecordKind, payload: &[u8]) -> Result<usize> {
-    raw::append(buffer, used, kind, payload)
+pub fn append(
+    buffer: &mut [u8],
+    used: usize,
+    kind: RecordKind,
+    time: Option<u32>,
+    payload: &[u8],
+) -> Result<usize> {
+    raw::append(buffer, used, kind, time, payload)
 }
 
 /// The records of a log, newest first. It ends where the log's start is reached, or after an error.

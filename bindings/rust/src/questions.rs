@@ -33,10 +33,10 @@ pub(crate) fn text(question: u8) -> Option<&'static str> {
         33 => "place not beyond the end?",
         // The log.
         41 => "three octets left?",
-        42 => "kind 1 to 3?",
-        43 => "length 1 to 1514?",
-        44 => "that many octets before the trailer?",
-        46 => "does the record fit the buffer?",
+        42 => "kind 1 to 3, in reading also 11 to 13?",
+        43 => "payload length 1 to 1514?",
+        44 => "do payload and time fit before the trailer?",
+        46 => "does the record fit the buffer, with its time?",
         47 => "end within the log, used count within the buffer?",
         _ => return None,
     })

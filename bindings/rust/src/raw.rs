@@ -7,10 +7,10 @@
 //!   a local; the rest is behind `&`;
 //! - the library has the layout that `ffi` declares: `same_layout` asks before the first call.
 //!
-//! The answer FF, for a number that names no rule, form, type, function or state, does not come: the numbers are those
-//! of the cases of `CheckRule` (0, 1), `EthernetForm` (0, 1), `MstpFrameType` (0 to 7) and `BvlcFunction` (00 to 0C),
-//! and these are all named; those of a state are made from a `bool` (0, 1), a `u8` (0 to 255) and a `usize`, and all of
-//! these are states.
+//! The answer FF, for a number that names no rule, form, type, function, time or state, does not come: the numbers are
+//! those of the cases of `CheckRule` (0, 1), `EthernetForm` (0, 1), `MstpFrameType` (0 to 7) and `BvlcFunction` (00 to
+//! 0C), and these are all named; a time is 0 for `None` and 1 for `Some`; those of a state are made from a `bool` (0,
+//! 1), a `u8` (0 to 255) and a `usize`, and all of these are states.
 //!
 //! Places and counts that are answered lie within the caller's octets.
 
@@ -34,6 +34,9 @@ pub(crate) struct Counts {
 
 /// A state of the padding search, as numbers.
 pub(crate) type PaddingNumbers = [usize; ffi::PADDING_NUMBERS];
+
+/// A record of a log, as numbers.
+pub(crate) type RecordNumbers = [usize; ffi::RECORD_NUMBERS];
 
 /// What a BVLC message carries, with places in the message.
 pub(crate) enum Carried {
@@ -447,10 +450,10 @@ pub(crate) fn read_frames(rule: CheckRule, run: &[u8], out: &mut [u32]) -> Resul
     answered(answer, count)
 }
 
-pub(crate) fn read_record(log: &[u8], end: usize) -> Result<Option<[usize; 3]>> {
+pub(crate) fn read_record(log: &[u8], end: usize) -> Result<Option<RecordNumbers>> {
     same_layout();
-    let mut record = [0; 3];
-    // SAFETY: pointer and length are of `log`; `record` is a local of three numbers.
+    let mut record = [0; ffi::RECORD_NUMBERS];
+    // SAFETY: pointer and length are of `log`; `record` is a local of the size declared.
     let answer = unsafe { ffi::lefkanu_read_record(log.as_ptr(), log.len(), end, &mut record) };
     found(answer, record)
 }
@@ -459,9 +462,14 @@ pub(crate) fn append(
     buffer: &mut [u8],
     used: usize,
     kind: RecordKind,
+    time: Option<u32>,
     payload: &[u8],
 ) -> Result<usize> {
     same_layout();
+    let (timed, second) = match time {
+        Some(second) => (ffi::SECOND, second),
+        None => (ffi::NO_TIME, 0),
+    };
     let mut new_used = 0;
     // SAFETY: pointers and lengths are of `payload` and of `buffer`, which is lent alone; `new_used` is a local.
     let answer = unsafe {
@@ -470,6 +478,8 @@ pub(crate) fn append(
             buffer.len(),
             used,
             kind as u8,
+            timed,
+            second,
             payload.as_ptr(),
             payload.len(),
             &mut new_used,

@@ -19,10 +19,10 @@ fn dryer_log() {
 #[test]
 fn the_rule_is_followed() {
     let log = octets("55 FF 00 10 05 00 00 9A 01 00 08");
-    assert_eq!(listing(AnnexG, &log), "bus\nstart reached\n");
+    assert_eq!(listing(AnnexG, &log), "bus -\nstart reached\n");
     assert_eq!(
         listing(House, &log),
-        "bus\n  source 5 data\nstart reached\n"
+        "bus -\n  source 5 data\nstart reached\n"
     );
 }
 
@@ -31,5 +31,14 @@ fn what_ends_the_reading() {
     assert_eq!(listing(AnnexG, &[]), "start reached\n");
     assert_eq!(listing(AnnexG, &[0x00]), "question 41\n");
     let log = octets("00 01 81 02 00 01");
-    assert_eq!(listing(AnnexG, &log), "ip\nquestion 41\n");
+    assert_eq!(listing(AnnexG, &log), "ip -\nquestion 41\n");
+}
+
+#[test]
+fn times_are_shown() {
+    let log = octets("AA 00 00 00 00 0D 00 01 BB FF FF FF FF 0C 00 01");
+    assert_eq!(
+        listing(AnnexG, &log),
+        "ip 4294967295\nethernet 0\nstart reached\n"
+    );
 }

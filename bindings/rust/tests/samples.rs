@@ -186,8 +186,10 @@ fn listing(log: &[u8]) -> String {
             RecordKind::Ip => (validate_bacnet_ip_frame(record.payload), 0),
             RecordKind::Ethernet => (validate_ethernet_frame(record.payload), 0),
         };
-        let (kind, valid) = (record.kind as u8, u8::from(result.is_valid));
-        lines += &format!("record {kind} {} {valid} {frames}\n", record.payload.len());
+        let (kind, length) = (record.kind as u8, record.payload.len());
+        let valid = u8::from(result.is_valid);
+        let second = record.time.map_or("-".into(), |second| second.to_string());
+        lines += &format!("record {kind} {length} {valid} {frames} {second}\n");
     }
     lines + "end\n"
 }
@@ -203,5 +205,5 @@ fn dryer_log() {
 #[test]
 fn a_log_that_reaches_its_start() {
     let log = octets("55 FF 00 10 05 00 00 8C 01 00 08");
-    assert_eq!(listing(&log), "record 1 8 1 1\nend\n");
+    assert_eq!(listing(&log), "record 1 8 1 1 -\nend\n");
 }

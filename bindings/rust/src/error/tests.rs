@@ -95,7 +95,7 @@ fn errors_in_words() {
         (31, "Refused (question 31: at most 65,535 octets?)"),
         (
             44,
-            "Refused (question 44: that many octets before the trailer?)",
+            "Refused (question 44: do payload and time fit before the trailer?)",
         ),
         (45, "Refused (question 45)"),
         (61, "Refused (question 61: length field 3 to 1500?)"),

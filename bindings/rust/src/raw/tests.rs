@@ -188,7 +188,17 @@ fn read(rule: u8, run: &[u8], room: usize) -> (u8, Vec<u32>, usize) {
     (answer, buffer, count)
 }
 
-fn append(used: usize, kind: u8, payload: &[u8], room: usize) -> (u8, Vec<u8>, usize) {
+/// A number and a second, which may name a time.
+type Timed = (u8, u32);
+
+/// Lends the middle of a buffer, and gives the whole.
+fn append(
+    used: usize,
+    kind: u8,
+    (timed, second): Timed,
+    payload: &[u8],
+    room: usize,
+) -> (u8, Vec<u8>, usize) {
     let mut whole = vec![OCTET; room + 32];
     let buffer = &mut whole[16..16 + room];
     let mut new_used = NUMBER;
@@ -198,6 +208,8 @@ fn append(used: usize, kind: u8, payload: &[u8], room: usize) -> (u8, Vec<u8>, u
             buffer.len(),
             used,
             kind,
+            timed,
+            second,
             payload.as_ptr(),
             payload.len(),
             &mut new_used,
@@ -746,18 +758,34 @@ fn read_frames() {
 
 #[test]
 fn read_record() {
+    const UNTOUCHED: [usize; RECORD_NUMBERS] = [NUMBER; RECORD_NUMBERS];
     let log = [0x81, 0x06, 0x02, 0x00, 0x02];
+    let timed = [0x81, 0x06, 0x01, 0x02, 0x03, 0x04, 0x0C, 0x00, 0x02];
+    let highest = [0x81, 0x06, 0xFF, 0xFF, 0xFF, 0xFF, 0x0D, 0x00, 0x02];
+    let zero = [0x81, 0x06, 0x00, 0x00, 0x00, 0x00, 0x0B, 0x00, 0x02];
     for (answer, log, end, expected) in [
-        (0, &log[..], 5, [2, 0, 2]),
-        (NONE, &log, 0, [NUMBER; 3]),
-        (47, &log, 6, [NUMBER; 3]),
-        (41, &log, 2, [NUMBER; 3]),
-        (42, &log, 3, [NUMBER; 3]),
-        (42, &changed(log, 2, 4), 5, [NUMBER; 3]),
-        (43, &changed(log, 4, 0), 5, [NUMBER; 3]),
-        (44, &changed(log, 4, 3), 5, [NUMBER; 3]),
+        (0, &log[..], 5, [2, 0, 2, 0, 0]),
+        (0, &timed, 9, [2, 0, 2, 1, 0x0102_0304]),
+        (0, &highest, 9, [3, 0, 2, 1, 0xFFFF_FFFF]),
+        (0, &zero, 9, [1, 0, 2, 1, 0]),
+        (0, &changed(zero, 8, 1), 9, [1, 1, 1, 1, 0]),
+        (NONE, &log, 0, UNTOUCHED),
+        (47, &log, 6, UNTOUCHED),
+        (41, &log, 2, UNTOUCHED),
+        (42, &log, 3, UNTOUCHED),
+        (42, &changed(log, 2, 4), 5, UNTOUCHED),
+        (42, &changed(zero, 6, 0x0A), 9, UNTOUCHED),
+        (42, &changed(zero, 6, 0x0E), 9, UNTOUCHED),
+        (43, &changed(log, 4, 0), 5, UNTOUCHED),
+        (43, &changed(zero, 8, 0), 9, UNTOUCHED),
+        (44, &changed(log, 4, 3), 5, UNTOUCHED),
+        (44, &changed(zero, 8, 3), 9, UNTOUCHED),
+        // A time that is not all there, and none of it.
+        (44, &zero[3..], 6, UNTOUCHED),
+        (44, &changed(log, 2, 0x0B), 5, UNTOUCHED),
+        (44, &zero[6..], 3, UNTOUCHED),
     ] {
-        let mut record = [NUMBER; 3];
+        let mut record = UNTOUCHED;
         let answered = unsafe { lefkanu_read_record(log.as_ptr(), log.len(), end, &mut record) };
         assert_eq!((answered, record), (answer, expected));
     }
@@ -765,19 +793,62 @@ fn read_record() {
 
 #[test]
 fn append_record() {
-    let mut expected = vec![OCTET; 42];
-    expected[19..24].copy_from_slice(&[0x81, 0x06, 0x02, 0x00, 0x02]);
-    assert_eq!(append(3, 2, &[0x81, 0x06], 10), (0, expected, 8));
-    for (answer, used, kind, payload, room) in [
-        (47, 11, 1, 1, 10),
-        (42, 0, 0, 1, 10),
-        (42, 0, 4, 1, 10),
-        (43, 0, 1, 0, 10),
-        (43, 0, 1, 1515, 2000),
-        (46, 7, 1, 1, 10),
-        (46, 0, 1, 1, 0),
+    // Without a time the second is not looked at.
+    for (used, kind, time, written) in [
+        (3, 2, (NO_TIME, 0), &[0x81, 0x06, 0x02, 0x00, 0x02][..]),
+        (3, 2, (NO_TIME, 7), &[0x81, 0x06, 0x02, 0x00, 0x02]),
+        (
+            1,
+            2,
+            (SECOND, 0x0102_0304),
+            &[0x81, 0x06, 0x01, 0x02, 0x03, 0x04, 0x0C, 0x00, 0x02],
+        ),
+        (
+            0,
+            1,
+            (SECOND, 0),
+            &[0x81, 0x06, 0x00, 0x00, 0x00, 0x00, 0x0B, 0x00, 0x02],
+        ),
+        (
+            0,
+            3,
+            (SECOND, u32::MAX),
+            &[0x81, 0x06, 0xFF, 0xFF, 0xFF, 0xFF, 0x0D, 0x00, 0x02],
+        ),
+    ] {
+        let new_used = used + written.len();
+        let mut expected = vec![OCTET; 42];
+        expected[16 + used..16 + new_used].copy_from_slice(written);
+        let appended = append(used, kind, time, &[0x81, 0x06], 10);
+        assert_eq!(appended, (0, expected, new_used));
+    }
+    let (none, second) = ((NO_TIME, 0), (SECOND, 0));
+    for (answer, used, kind, time, payload, room) in [
+        (47, 11, 1, none, 1, 10),
+        (47, 11, 1, second, 1, 10),
+        (42, 0, 0, none, 1, 10),
+        (42, 0, 4, none, 1, 10),
+        (42, 0, 4, second, 1, 10),
+        // The octets of kinds with a time are no kinds.
+        (42, 0, 11, none, 1, 10),
+        (42, 0, 12, second, 1, 10),
+        (42, 0, 13, second, 1, 10),
+        (43, 0, 1, none, 0, 10),
+        (43, 0, 1, second, 0, 10),
+        (43, 0, 1, none, 1515, 2000),
+        (43, 0, 1, second, 1515, 2000),
+        (46, 7, 1, none, 1, 10),
+        (46, 0, 1, none, 1, 0),
+        // The four octets of the time count.
+        (46, 3, 1, second, 1, 10),
+        (46, 0, 1, second, 4, 10),
+        (46, 0, 1, second, 1514, 1520),
+        // No time, before any question is asked.
+        (NO_CASE, 0, 1, (2, 0), 1, 10),
+        (NO_CASE, 0, 1, (0xFF, 0), 1, 10),
+        (NO_CASE, 11, 0, (2, 0), 0, 10),
     ] {
         let expected = (answer, vec![OCTET; room + 32], NUMBER);
-        assert_eq!(append(used, kind, &vec![1; payload], room), expected);
+        assert_eq!(append(used, kind, time, &vec![1; payload], room), expected);
     }
 }
