@@ -1,4 +1,6 @@
 // The analysis of a frame: `analyze_frame` of validation.rs.
+#![tactic(auto)]
+
 ghost use Rattle.std.specs.Prelude.{◌≡◌};
 ghost use Rattle.patterns.specs.Detect.{patterns_output};
 ghost use Rattle.statistics.specs.Laws.{LongestStands};

@@ -1,5 +1,7 @@
 // Answers told to callers in other languages: a number, which is 0 where there is a result, and lent memory, which then
 // holds the result, and else what it held before.
+#![tactic(auto)]
+
 ghost use Rattle.std.specs.Prelude.{◌≡◌, ◌-◌};
 ghost use Rattle.octets.specs.Answer.{count_number, count_or, accept_number};
 ghost use Rattle.answers.specs.Told.{mstp_number, mstp_header, bvlc_number, bvlc_header, message_number, message_carried};

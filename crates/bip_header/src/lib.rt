@@ -1,4 +1,6 @@
 // The functions and the header of BVLC messages: bip.rs.
+#![tactic(auto)]
+
 mod function;
 
 ghost use Rattle.std.specs.Prelude.{◌≡◌};
@@ -75,5 +77,6 @@ pub fn encode(function: BvlcFunction, length: u16, out: &mut [u8]) -> CountResul
     let high = (length / 256) as u8;
     let low = (length % 256) as u8;
     let header = [BVLC_TYPE, function.to_u8(), high, low];
-    CountResult::Count(bytes::copy(&header, out))
+    out[..BVLC_HEADER_SIZE].copy_from_slice(&header);
+    CountResult::Count(BVLC_HEADER_SIZE)
 }

@@ -1,4 +1,6 @@
 // What a BVLC message carries: bip.rs.
+#![tactic(auto)]
+
 ghost use Rattle.std.specs.Prelude.{◌≡◌};
 ghost use Rattle.bip_message.specs.Message.{registration, message_of, npdu_there, questions_behind, process, npdu, LeastLaidOut, Whole, Carries};
 ghost use Rattle.octets.specs.Question.{first_no, answered};

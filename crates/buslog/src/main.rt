@@ -1,5 +1,7 @@
 // Lists the log on standard input, newest record first: `listing` decides what is printed. Where the log can't be read,
 // nothing is printed and standard error has a message.
+#![tactic(auto)]
+
 use libc::{STDERR_FILENO, STDIN_FILENO};
 use log_input::{InputListed, ROOM};
 

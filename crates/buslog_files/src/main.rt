@@ -1,6 +1,8 @@
 // Lists the logs that its arguments name, each after its name, by the call that `buslog` makes, and then again with reads of
 // a few octets, of one, and of no octets, which count as one: the gate's cases. tools/model makes them and says what is
 // printed.
+#![tactic(auto)]
+
 use libc::STDOUT_FILENO;
 use log_input::{InputListed, ROOM};
 

@@ -1,5 +1,7 @@
 // Prints the check tables that controllers burn: `tables_text` decides what is printed. Where it can't be written, standard
 // error has a message.
+#![tactic(auto)]
+
 ghost use Rattle.std.specs.Prelude.{◌≡◌, ◌+◌, ◌≤◌, length};
 ghost use Rattle.octets.specs.Put.{Put};
 ghost use Rattle.io.specs.Counts.{IsPrefixLen};

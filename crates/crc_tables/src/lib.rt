@@ -1,5 +1,7 @@
 // The check tables, one for each constant: the entry of an octet is that octet after eight steps, with nothing added before
 // or complemented after.
+#![tactic(auto)]
+
 mod tables;
 
 ghost use Rattle.std.specs.Prelude.{◌≡◌};

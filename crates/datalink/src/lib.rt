@@ -1,4 +1,6 @@
 // The errors of the data links: datalink/mod.rs.
+#![tactic(auto)]
+
 ghost use Rattle.std.specs.Prelude.{◌≡◌};
 ghost use Rattle.datalink.specs.Error.{rust_asks, error_of};
 

@@ -1,5 +1,7 @@
 // Reading and validating Ethernet frames: `EthernetFrame::decode` and `validate_ethernet_frame` of ethernet.rs, which have
 // form EtherType; reading also in form Length, that of clause 7.
+#![tactic(auto)]
+
 mod fields;
 
 ghost use Rattle.std.specs.Prelude.{◌≡◌, ◌≤◌, length};

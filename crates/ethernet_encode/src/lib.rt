@@ -1,5 +1,7 @@
 // Writing Ethernet frames: `EthernetFrame::encode` of ethernet.rs under the size test of `send_ethernet_frame`, which has
 // form EtherType; also in form Length, that of clause 7.
+#![tactic(auto)]
+
 mod output;
 
 ghost use Rattle.std.specs.Prelude.{◌≡◌, ◌+◌, ◌-◌, ◌≤◌};

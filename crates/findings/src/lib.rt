@@ -1,4 +1,6 @@
 // The findings of the validators and the result that holds them: validation.rs.
+#![tactic(auto)]
+
 ghost use Rattle.std.specs.Prelude.{◌≡◌, [], ◌∷◌};
 ghost use Rattle.findings.specs.Finding.{finding, frame_too_short};
 ghost use Rattle.findings.specs.Link.{link_number};

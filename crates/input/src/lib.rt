@@ -1,4 +1,6 @@
 // Reading a descriptor to its end.
+#![tactic(auto)]
+
 ghost use Rattle.std.specs.Prelude.{◌<◌, ◌≡◌, length};
 ghost use Rattle.input.specs.Answer.{answered, most_asked, Came};
 ghost use Rattle.input.specs.Room.{Reads};

@@ -3,6 +3,8 @@
 // fails, FE for "none" and "start reached", or FF where a number names no rule, type or function, or numbers no state, and
 // writes nothing. The version of the layout is answered as it is. `numbers` has the layout of results, `answers` how
 // answers are told.
+#![tactic(auto)]
+
 mod bus_runs;
 mod bvlc_messages;
 mod checks;

@@ -1,4 +1,6 @@
 // Appending a record to a log: its octets, then its time, if it has one, its kind and its length.
+#![tactic(auto)]
+
 mod output;
 
 ghost use Rattle.std.specs.Prelude.{◌≡◌};

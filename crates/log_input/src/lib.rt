@@ -1,4 +1,6 @@
 // Lists the log that a descriptor has: reads it to its end, and prints the text that `log_listing` has for it.
+#![tactic(auto)]
+
 ghost use Rattle.std.specs.Prelude.{◌≡◌, length};
 ghost use Rattle.input.specs.Room.{Reads};
 ghost use Rattle.log_input.specs.Listed.{PrintedOf, ListedOf, ListedInput};

@@ -1,4 +1,6 @@
 // The text that is printed for a log, written into lent memory: a line for each record, newest first, and a last line.
+#![tactic(auto)]
+
 mod line;
 
 ghost use Rattle.std.specs.Prelude.{◌≡◌, ◌≤◌, length};

@@ -1,4 +1,6 @@
 // The whole reading of a log, back from an end to its start or to the first question that fails.
+#![tactic(auto)]
+
 ghost use Rattle.std.specs.Prelude.{◌≡◌};
 ghost use Rattle.log_reading.specs.Reading.{count_answer, CountsBack};
 ghost use Rattle.log_reading.specs.Written.{ReadsWritten};

@@ -1,5 +1,7 @@
 // The records of a log, each with its time, if it has one, its kind and its length behind it: what they are, and reading one
 // back from an end.
+#![tactic(auto)]
+
 ghost use Rattle.std.specs.Prelude.{◌≡◌, ◌+◌, ◌≤◌, ◌<◌, length};
 ghost use Rattle.log_record.specs.Record.{known_kind, allowed_size, time_octets};
 ghost use Rattle.log_record.specs.Read.{timed, kind_of, octet_before, time_before, read_record, payload_in, payload_of, ReadsWhatEnds};

@@ -1,6 +1,8 @@
 // Changes one header octet of a frame in every way, for 32 frames, and prints each change that is read all the same: first
 // under the house rule, then under Annex G's. `of_all` decides the counts. Where it can't be written, standard error has a
 // message.
+#![tactic(auto)]
+
 ghost use Rattle.std.specs.Prelude.{◌≡◌, ◌+◌, ◌≤◌, ◌<◌, length, take};
 ghost use Rattle.octets.specs.Put.{Put};
 ghost use Rattle.mstp_decode.specs.Change.{is_frame};

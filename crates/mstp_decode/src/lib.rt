@@ -1,4 +1,6 @@
 // Reading MS/TP frames under either check rule: `MstpFrame::decode` of mstp.rs.
+#![tactic(auto)]
+
 mod fields;
 
 ghost use Rattle.std.specs.Prelude.{◌≡◌};

@@ -1,4 +1,6 @@
 // Writing MS/TP frames under either check rule: mstp.rs.
+#![tactic(auto)]
+
 mod output;
 
 ghost use Rattle.std.specs.Prelude.{◌≡◌};

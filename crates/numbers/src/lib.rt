@@ -1,4 +1,6 @@
 // Rules, forms, times and results as numbers, for callers in other languages.
+#![tactic(auto)]
+
 mod layout;
 
 ghost use Rattle.std.specs.Prelude.{◌≡◌};

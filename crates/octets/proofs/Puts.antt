@@ -13,19 +13,11 @@ use Rattle.octets.specs.Output.{at_front}
 use Rattle.octets.specs.Put.{Put, fits_at, put_place, put_output}
 use Rattle.octets.proofs.Outputs.{sets_append, front_sets}
 
--- what a copy into the part from a place on leaves
-pub put_part : (xs l : List ℕ) (at : ℕ) {p : List ℕ} → at + length xs ≤ length l
-    → p ≡ take (length xs) xs ++ drop (length xs) (take (length l - at) (drop at l))
-    → put_mid at (length l - at) l p ≡ sets l at xs
+-- what a copy into the part at a place leaves
+pub put_part : (xs l : List ℕ) (at : ℕ) {p : List ℕ} → at + length xs ≤ length l → p ≡ xs → put_mid at (at + length xs - at) l p ≡ sets l at xs
 put_part xs l at {p} room copied =
-    ap₂ (λ (a b : List ℕ). take at l ++ (a ++ b))
-    (copied
-    ∙ ap₂ (λ (a b : List ℕ). a ++ drop (length xs) b) (take-length xs) (take_all (length l - at) (drop at l) (omega (arith, length-drop at l)))
-    ∙ ap (λ (a : List ℕ). xs ++ a) (drop-drop (length xs) at l))
-    (drop_of_length-le (drop at l) {i = length l - at} (omega (arith, length-drop at l)))
-    ∙ ap (λ (a : List ℕ). take at l ++ a) (append-nil (xs ++ drop (at + length xs) l))
-    ∙ sym (append_assoc (take at l) xs (drop (at + length xs) l))
-    ∙ sym (sets-eq xs l at room)
+    let size : at + length xs - at ≡ length xs = omega arith in
+    rw (copied, size) (ap (λ (r : List ℕ). take at l ++ (xs ++ r)) (drop-drop (length xs) at l) ∙ sym (append_assoc (take at l) xs (drop (at + length xs) l)) ∙ sym (sets-eq xs l at room))
 
 -- what `put` answers and leaves
 module _ (xs before : List ℕ) (at : ℕ) where

@@ -1,4 +1,6 @@
 // The search for padding in order of arrival: a step for each octet, with the last octet's run remembered.
+#![tactic(auto)]
+
 ghost use Rattle.std.specs.Prelude.{◌≡◌, []};
 ghost use Rattle.padding.specs.State.{after, run_with, next, counted};
 ghost use Rattle.padding.specs.Laws.{Follows, Counts, StepExample, LengthExample};

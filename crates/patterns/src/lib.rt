@@ -1,4 +1,6 @@
 // The patterns of a frame: `detect_patterns` of validation.rs.
+#![tactic(auto)]
+
 ghost use Rattle.std.specs.Prelude.{◌≡◌, ◌≤◌, ◌<◌, length, take};
 ghost use Rattle.patterns.specs.Entries.{padding_pattern, text_pattern, when, mark};
 ghost use Rattle.patterns.specs.Entries.{padding, texts};

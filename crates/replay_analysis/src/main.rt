@@ -1,6 +1,8 @@
 // Answers a list of cases of findings, statistics and patterns: standard input has one a line, as tools/oracle prints
 // them, and standard output gets the answers. The file `stdout` beside it has the Rust's, where it
 // has one: docs/REPLAY.md.
+#![tactic(auto)]
+
 mod answers;
 mod cases;
 

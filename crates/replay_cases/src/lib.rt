@@ -1,4 +1,6 @@
 // What the programs that replay stored cases share: reading a case and printing an answer.
+#![tactic(auto)]
+
 pub mod input;
 pub mod print;
 pub mod spelling;

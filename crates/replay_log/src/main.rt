@@ -1,5 +1,7 @@
 // Answers a list of calls of the log on one buffer: standard input has one a line, as tools/model writes them, and
 // standard output gets the answers. The file `stdout` beside it has that model's: docs/REPLAY.md.
+#![tactic(auto)]
+
 mod answers;
 mod calls;
 

@@ -1,5 +1,7 @@
 // Answers a list of cases of the finder and the whole reading: standard input has one a line, as tools/model
 // prints them, and standard output gets the answers. The file `stdout` beside it has that model's: docs/REPLAY.md.
+#![tactic(auto)]
+
 mod answers;
 mod cases;
 mod pieces;

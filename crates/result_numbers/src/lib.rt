@@ -1,4 +1,6 @@
 // A validator's result as an array of numbers, for callers in other languages.
+#![tactic(auto)]
+
 ghost use Rattle.std.specs.Prelude.{◌≡◌};
 ghost use mathlib.Core.List.{[], ◌∷◌, ◌++◌, flat_map};
 ghost use Rattle.findings.specs.Result.{result};

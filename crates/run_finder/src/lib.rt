@@ -1,4 +1,6 @@
 // The finder: the first acceptable MS/TP frame of a run from a place on, under either check rule.
+#![tactic(auto)]
+
 ghost use Rattle.std.specs.Prelude.{◌≡◌};
 ghost use Rattle.run_finder.specs.Find.{find};
 ghost use Rattle.run_search.specs.Found.{Found};

@@ -1,5 +1,7 @@
 // A reader that borrows a run and remembers its place: each `next` answers what the finder says from there. The work is
 // `step_at`, for callers who keep the place themselves; the functions over the struct are thin, and proved by hand.
+#![tactic(auto)]
+
 ghost use Rattle.std.specs.Prelude.{◌≡◌, []};
 ghost use Rattle.run_finder.specs.Find.{find};
 ghost use Rattle.run_finder.specs.Calls.{Called, Calls};

@@ -1,4 +1,6 @@
 // The whole reading of a run: the finder's calls from place 0, each next from the last report's end, until "none".
+#![tactic(auto)]
+
 ghost use Rattle.std.specs.Prelude.{◌≡◌, ◌≤◌, length};
 ghost use Rattle.run_finder.specs.Reading.{WholeReading, reading};
 ghost use Rattle.run_reading.specs.Answer.{count_answer, read_answer, read_output, CountOf, Counted, Handed};

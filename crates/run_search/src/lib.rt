@@ -1,4 +1,6 @@
 // The search for acceptable MS/TP frames in a run, under either check rule.
+#![tactic(auto)]
+
 mod through;
 
 ghost use Rattle.std.specs.Prelude.{◌≡◌, ◌/◌, length, take};

@@ -1,5 +1,7 @@
 // Runs of octets: how far octets of one value, or between two values, go on from a place, and the longest run of one
 // value.
+#![tactic(auto)]
+
 ghost use Rattle.std.specs.Prelude.{◌≡◌, drop};
 ghost use Rattle.octets.specs.Range.{within};
 ghost use Rattle.runs.specs.Front.{is, front};

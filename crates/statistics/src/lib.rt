@@ -1,4 +1,6 @@
 // The statistics of a frame: `calculate_frame_statistics` of validation.rs, without the entropy.
+#![tactic(auto)]
+
 ghost use Rattle.std.specs.Prelude.{◌≡◌, ◌≤◌, ◌<◌, length};
 ghost use Rattle.statistics.specs.Statistics.{byte_distribution, frame_statistics, no_statistics, statistics};
 ghost use Rattle.statistics.specs.Laws.{total, Calculates, AllCounted, NullCounted, HighCounted, LongestStands};

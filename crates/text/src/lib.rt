@@ -1,5 +1,7 @@
 // Numbers as text, put at a place of lent memory. As with `octets::put`, each answers the place behind what it put; where that
 // does not fit, it puts nothing, and answers the place itself.
+#![tactic(auto)]
+
 ghost use Rattle.std.specs.Prelude.{◌≡◌, ◌%◌, get_or};
 ghost use Rattle.octets.specs.Put.{put_place, put_output};
 ghost use Rattle.text.specs.Text.{field, hexadecimal, letters};

@@ -1,5 +1,7 @@
 // Document 01's trials, (a) to (k), proved together as one table (specs/Trials). The stored cases of `replay` and
 // `replay_analysis` run the same inputs.
+#![tactic(auto)]
+
 ghost use Rattle.std.specs.Prelude.{◌≡◌, length};
 ghost use Rattle.trials.specs.Trials.{table, Trials};
 

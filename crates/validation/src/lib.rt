@@ -1,4 +1,6 @@
 // The validators of validation.rs, and the one that finds out which of them a frame goes to: `validate_frame`.
+#![tactic(auto)]
+
 ghost use Rattle.std.specs.Prelude.{◌≡◌, [], eqb};
 ghost use Rattle.mstp_frame.specs.Fields.{begins_preamble};
 ghost use Rattle.ethernet_decode.specs.Frame.{bacnet_type};

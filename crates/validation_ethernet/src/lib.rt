@@ -1,4 +1,6 @@
 // The validator of Ethernet frames in validation.rs: `validate_ethernet_frame`.
+#![tactic(auto)]
+
 ghost use Rattle.std.specs.Prelude.{◌≡◌, ◌≤◌, length};
 ghost use Rattle.findings.specs.Result.{faultless};
 ghost use Rattle.validation_ethernet.specs.Tests.{llc, broadcast, multicast, ethernet_result};

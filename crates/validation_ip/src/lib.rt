@@ -1,4 +1,6 @@
 // The validator of BACnet/IP messages: `validate_bacnet_ip_frame` of validation.rs.
+#![tactic(auto)]
+
 ghost use Rattle.std.specs.Prelude.{◌≡◌};
 ghost use Rattle.findings.specs.Result.{faultless};
 ghost use Rattle.validation_ip.specs.Tests.{changes_table, ip_result};

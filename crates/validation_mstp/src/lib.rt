@@ -1,4 +1,6 @@
 // The validator of MS/TP frames under either check rule: `validate_mstp_frame` of validation.rs.
+#![tactic(auto)]
+
 ghost use Rattle.std.specs.Prelude.{◌≡◌, not, eqb, length};
 ghost use Rattle.octets.specs.Range.{within};
 ghost use Rattle.findings.specs.Result.{found, stored, faultless};

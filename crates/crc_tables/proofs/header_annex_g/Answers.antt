@@ -3,12 +3,8 @@
 use mathlib.Core.Path.{refl}
 use Rattle.crc_tables.specs.Steps.{xor_if, step, steps}
 use Rattle.crc_tables.specs.Table.{entries, table_of}
-use Rattle.crc_tables.proofs.header_annex_g.Statement.{statement}
-use Rattle.crc_tables.proofs.header_annex_g.Tie as tie
+use Rattle.crc_tables.proofs.header_annex_g.Goals as goal
 
-returns : tie.Need-returns
+pub returns : goal.returns
 unfolding table_of entries steps step xor_if
 returns c = refl
-
-pub header-annex-g-spec : {M : Type 1} → statement M
-header-annex-g-spec = tie.close (tie.spec returns)
