@@ -6,7 +6,7 @@ ghost use Rattle.input.specs.Answer.{answered, most_asked, Came};
 ghost use Rattle.input.specs.Room.{Reads};
 
 // What one `read` says: that it failed, that the input has ended, or that so many more octets came.
-#[derive(Drop)]
+#[derive(Clone, Copy)]
 pub enum ReadAnswer {
     Failed,
     End,
@@ -15,7 +15,7 @@ pub enum ReadAnswer {
 
 // What reading to the end answers: the room is full, the input ended before it was, or a read failed; and how many octets
 // there are.
-#[derive(Drop)]
+#[derive(Clone, Copy)]
 pub enum InputRead {
     Full(usize),
     Ended(usize),

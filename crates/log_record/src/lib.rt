@@ -26,14 +26,14 @@ const SECOND_SIZE: usize = 4;
 pub const TRAILER_SIZE: usize = 3;
 
 // When a record was made: the second, of 32 bits, or no time.
-#[derive(Drop)]
+#[derive(Clone, Copy)]
 pub enum RecordTime {
     Second(u32),
     None,
 }
 
 // A record of a log: its kind, when it was made, the place of its first octet, and how many octets it has.
-#[derive(Drop)]
+#[derive(Clone, Copy)]
 pub struct LogRecord {
     pub kind: u8,
     pub time: RecordTime,
@@ -43,7 +43,7 @@ pub struct LogRecord {
 
 // What reading from an end answers: the record that ends there, that the log's start is reached, or the number of the
 // first question that failed.
-#[derive(Drop)]
+#[derive(Clone, Copy)]
 pub enum RecordRead {
     Record(LogRecord),
     StartReached,
