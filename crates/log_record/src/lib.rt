@@ -101,9 +101,9 @@ fn time_before(log: &[u8], end: usize) -> RecordTime
 }
 
 // The record of a kind and of a time of so many octets that ends at an end of the log, or the question behind 41 that fails.
-fn record_of(log: &[u8], end: usize, kind: u8, time_octets: usize) -> RecordRead
+fn record_of(log: &[u8], end: usize, kind: u8, octets_of_time: usize) -> RecordRead
     requires { (3 ≤ end) × ((end ≤ length log.now) × ((kind ≡ kind_of (octet_before log.now end))
-        × (time_octets ≡ length (time_octets (time_before log.now end))))) }
+        × (octets_of_time ≡ length (time_octets (time_before log.now end))))) }
     ensures { result ≡ read_record log.now end }
 {
     if !known_kind(kind) {
@@ -113,7 +113,7 @@ fn record_of(log: &[u8], end: usize, kind: u8, time_octets: usize) -> RecordRead
     if !allowed_size(length) {
         return RecordRead::Refused(43);
     }
-    let size = length + (time_octets + TRAILER_SIZE);
+    let size = length + (octets_of_time + TRAILER_SIZE);
     if end < size {
         return RecordRead::Refused(44);
     }

@@ -16,7 +16,7 @@ asked : (c : goal.After-known_kind) → c.known_kind.result ≡ known_kind (kind
 asked c = c.known_kind.ensures ∙ ap known_kind c.requires.1.1.0
 
 -- the size of the record fits its type
-few : (c : goal.Else-not-allowed_size) → (c.number-length.result ≤ 1514) × (c.args.time-octets ≤ 4)
+few : (c : goal.Else-not-allowed_size) → (c.number-length.result ≤ 1514) × (c.args.octets_of_time ≤ 4)
 few c = (
   (within_true 1 1514 c.number-length.result (sym c.allowed_size.ensures ∙ c.if-not-allowed_size.false)).1,
   omega (arith, c.requires.1.1.1, time_few (time_before c.args.log.now c.args.end)),
@@ -37,3 +37,9 @@ pub returns : goal.returns
 returns c =
     reads _ _ (omega (arith, c.requires.0)) c.requires.1.0 c.requires.0 (asked (goal.at.returns c).After-known_kind) (c.if-not-known_kind.false) c.number-length.ensures c.allowed_size.ensures (c.if-not-allowed_size.false) c.requires.1.1.1
     c.requires.1.1.0 c.time_before-time.ensures c.if-end-size.false
+
+pub overflow_add-size : goal.overflow_add-size
+overflow_add-size c = omega (arith, (few c).1)
+
+pub overflow_add-size-2 : goal.overflow_add-size-2
+overflow_add-size-2 c = omega (arith, (few c).0, (few c).1)

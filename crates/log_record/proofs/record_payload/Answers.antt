@@ -5,7 +5,7 @@ use Rattle.log_record.specs.Read.{payload_of}
 use Rattle.log_record.proofs.record_payload.Goals as goal
 
 pub returns-in-Record : goal.returns-in-Record
-returns-in-Record c = c.payload_in.ensures ∙ ap (payload_of _) (sym c.«record».given.1 ∙ c.read_record.ensures.value)
+returns-in-Record c = c.payload_in.ensures ∙ ap (payload_of _) (sym c.in-Record.is ∙ c.read_record.ensures.value)
 
 pub returns-in-StartReached : goal.returns-in-StartReached
 returns-in-StartReached c = ap (payload_of _) (sym c.in-StartReached.is ∙ c.read_record.ensures.value)

@@ -18,3 +18,15 @@ returns-then-timed c = ap Second c.number4.ensures ∙ sym (second_read _ _ c.ti
 
 pub returns : goal.returns
 returns c = sym (none_read _ _ c.timed.ensures c.if-timed.false)
+
+pub overflow_sub-end-then-timed-2 : goal.overflow_sub-end-then-timed-2
+overflow_sub-end-then-timed-2 c = omega (arith, seven (goal.at.overflow_sub-end-then-timed-2 c).Then-timed)
+
+pub overflow_sub-end-then-timed-3 : goal.overflow_sub-end-then-timed-3
+overflow_sub-end-then-timed-3 c = omega (arith, seven (goal.at.overflow_sub-end-then-timed-3 c).Then-timed)
+
+pub overflow_sub-end-then-timed-4 : goal.overflow_sub-end-then-timed-4
+overflow_sub-end-then-timed-4 c = omega (arith, seven (goal.at.overflow_sub-end-then-timed-4 c).Then-timed)
+
+pub overflow_sub-end-then-timed : goal.overflow_sub-end-then-timed
+overflow_sub-end-then-timed c = seven c
