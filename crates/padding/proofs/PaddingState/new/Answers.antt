@@ -4,12 +4,8 @@ use mathlib.Core.Path.{refl}
 use Rattle.runs.specs.Front.{front}
 use Rattle.padding.specs.Padding.{end_length}
 use Rattle.padding.specs.State.{after}
-use Rattle.padding.proofs.PaddingState.new.Statement.{statement}
-use Rattle.padding.proofs.PaddingState.new.Tie as tie
+use Rattle.padding.proofs.PaddingState.new.Goals as goal
 
-returns : tie.Need-returns
+pub returns : goal.returns
 unfolding after end_length front
 returns c = refl
-
-pub new_spec : {M : Type 1} → statement M
-new_spec = tie.close (tie.spec returns)
