@@ -15,7 +15,7 @@ use Rattle.bip_header.specs.declared.BvlcHeader.{BvlcHeader}
 use Rattle.bip_header.specs.declared.BvlcDecoded.TheVariants.{Header}
 use Rattle.bip_header.specs.declared.BvlcDecoded.TheVariants.{Refused as HeaderRefused}
 use Rattle.bip_header.specs.Function.{function_number}
-use Rattle.bip_header.specs.Header.{header_questions, header_question, message_function, message_length, decode}
+use Rattle.bip_header.specs.Header.{header_questions, header_question, message_length, decode}
 use Rattle.bip_header.proofs.Headers.{told_refused, told_header}
 use Rattle.bip_message.specs.declared.BvlcMessage.{BvlcMessage}
 use Rattle.bip_message.specs.declared.BvlcMessage.TheVariants.{Npdu, TimeToLive, NoNpdu, Refused}

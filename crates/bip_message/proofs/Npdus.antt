@@ -16,7 +16,6 @@ use Rattle.octets.proofs.Parts.{Octets}
 use Rattle.octets.proofs.Questions.{all_yes, none_fails, passes_before, answered_value, is_value}
 use Rattle.bip_header.specs.declared.function.BvlcFunction.{BvlcFunction}
 use Rattle.bip_header.specs.declared.BvlcHeader.{BvlcHeader}
-use Rattle.bip_header.specs.declared.BvlcDecoded.TheVariants.{Header}
 use Rattle.bip_header.specs.Function.{function_number}
 use Rattle.bip_header.specs.Header.{new_header, header_octets, header_questions, header_question, message_function, message_length, decode}
 use Rattle.bip_header.proofs.Headers.{header_back, decode_accepted, told_header}

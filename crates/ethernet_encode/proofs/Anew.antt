@@ -17,7 +17,6 @@ use Rattle.octets.proofs.Questions.{answered_value}
 use Rattle.ethernet_decode.specs.declared.EthernetForm.{EthernetForm}
 use Rattle.ethernet_decode.specs.declared.EthernetForm.TheVariants.{EtherType, Length}
 use Rattle.ethernet_decode.specs.Frame.{llc_header, field, header_octets, unpadded}
-use Rattle.ethernet_decode.specs.Decode.{payload}
 use Rattle.ethernet_decode.specs.RoundTrip.{Ends, LaidOut}
 use Rattle.ethernet_decode.proofs.Frames.{decode_back, payload_back_lem}
 use Rattle.ethernet_decode.proofs.Answers.{read_is}

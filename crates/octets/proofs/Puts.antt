@@ -7,8 +7,8 @@ use native.Mathlib.Nat.{add-zero}
 use native.Mathlib.Omega.{arith}
 use borrow.Author.Tests.{le-leb, lt-leb}
 use borrow.Rule.Slice.PartMut.{put_mid}
-use lib.ListN.{length, take, drop, length-append, length-drop, drop_of_length-le}
-use lib.Seq.{take_all, take-length, drop-drop, sets, sets-eq, length-sets}
+use lib.ListN.{length, take, drop, length-append, drop_of_length-le}
+use lib.Seq.{drop-drop, sets, sets-eq, length-sets}
 use Rattle.octets.specs.Output.{at_front}
 use Rattle.octets.specs.Put.{Put, fits_at, put_place, put_output}
 use Rattle.octets.proofs.Outputs.{sets_append, front_sets}

@@ -1,6 +1,6 @@
 -- `mstp_frame::type_of` meets its contract: each arm is an entry of the list of types.
 -- Assumes nothing.
-use Rattle.octets.proofs.Cases.{from_next}
+use native.Mathlib.Omega.{arith}
 use Rattle.mstp_frame.specs.FrameType.{type_of}
 use Rattle.mstp_frame.proofs.FrameTypes.{type_last}
 use Rattle.mstp_frame.proofs.type_of.Goals as goal
@@ -34,4 +34,4 @@ unfolding type_of
 returns-in-6 c = rw c.in-6.is
 
 pub returns-in_default : goal.returns-in_default
-returns-in_default c = type_last _ (from_next 7 _ c.in_default.in_default-own.rest)
+returns-in_default c = type_last _ (omega arith)

@@ -20,8 +20,8 @@ ends : (c : goal.Joined-x-last)
 ends c =
     let h = c.loop-i-test.true in
     elim c.if-x-last.branch [
-      then-x-last w ↦ rw (w.start-is, w.last-is) (ends_new _ _ h c.loop-i.invariant.1.1 w.if-x-last.true)
-    | else-x-last w ↦ rw (w.start-is, w.last-is) (ends_on _ _ h c.loop-i.invariant.1.1 w.if-x-last.false)
+      | then-x-last w ↦ rw (w.start-is, w.last-is) (ends_new _ _ h c.loop-i.invariant.1.1 w.if-x-last.true)
+      | else-x-last w ↦ rw (w.start-is, w.last-is) (ends_on _ _ h c.loop-i.invariant.1.1 w.if-x-last.false)
     ]
 
 pub overflow_sub-n : goal.overflow_sub-n
@@ -34,8 +34,8 @@ loop-i-preserved c =
       omega arith,
       (
         elim c.if-length-n.branch [
-          then-length-n w ↦ rw (w.place-is, w.length-is) (at_new _ _ h c.loop-i.invariant.1.0 e w.if-length-n.true)
-        | else-length-n w ↦ rw (w.place-is, w.length-is) (at_on _ _ h c.loop-i.invariant.1.0 e w.if-length-n.false)
+          | then-length-n w ↦ rw (w.place-is, w.length-is) (at_new _ _ h c.loop-i.invariant.1.0 e w.if-length-n.true)
+          | else-length-n w ↦ rw (w.place-is, w.length-is) (at_on _ _ h c.loop-i.invariant.1.0 e w.if-length-n.false)
         ],
         e,
       ),

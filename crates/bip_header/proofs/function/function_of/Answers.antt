@@ -1,6 +1,6 @@
 -- `bip_header::function::function_of` meets its contract: each arm is an entry of the list of functions.
 -- Assumes nothing.
-use Rattle.octets.proofs.Cases.{from_next}
+use native.Mathlib.Omega.{arith}
 use Rattle.bip_header.specs.Function.{function_of}
 use Rattle.bip_header.proofs.Functions.{function_last}
 use Rattle.bip_header.proofs.function.function_of.Goals as goal
@@ -54,4 +54,4 @@ unfolding function_of
 returns-in-11 c = rw c.in-11.is
 
 pub returns-in_default : goal.returns-in_default
-returns-in_default c = function_last _ (from_next 12 _ c.in_default.in_default-own.rest)
+returns-in_default c = function_last _ (omega arith)
