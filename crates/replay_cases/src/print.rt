@@ -1,75 +1,74 @@
 // What an answer is printed on, in lower case hexadecimal digits. No contract can say what was printed: these functions have
 // none.
 use octets::CountResult;
-use std::io::Print;
 
 // Prints letters.
-pub fn letters<P: Print>(out: &P, letters: &[u8]) {
-    let _ = out.write_all(letters);
+pub fn letters<P: Print>(to: &P, letters: &[u8]) {
+    let _ = to.write_all(letters);
 }
 
 // Prints a number of at least that many digits.
-pub fn digits<P: Print>(out: &P, value: usize, least: usize) {
+pub fn digits<P: Print>(to: &P, value: usize, least: usize) {
     let mut text = [0u8; 16];
     let n = io::hex(value as u64, least, &mut text);
-    letters(out, &text[..n]);
+    letters(to, &text[..n]);
 }
 
 // Prints a space and a number of at least that many digits.
-pub fn number<P: Print>(out: &P, value: usize, least: usize) {
-    letters(out, b" ");
-    digits(out, value, least);
+pub fn number<P: Print>(to: &P, value: usize, least: usize) {
+    letters(to, b" ");
+    digits(to, value, least);
 }
 
 // Prints letters, a space and a number of at least that many digits.
-pub fn labelled<P: Print>(out: &P, label: &[u8], value: usize, least: usize) {
-    letters(out, label);
-    number(out, value, least);
+pub fn labelled<P: Print>(to: &P, label: &[u8], value: usize, least: usize) {
+    letters(to, label);
+    number(to, value, least);
 }
 
 // Prints a refusal: E and the question.
-pub fn refusal<P: Print>(out: &P, question: u8) {
-    labelled(out, b"E", question as usize, 2);
+pub fn refusal<P: Print>(to: &P, question: u8) {
+    labelled(to, b"E", question as usize, 2);
 }
 
 // Prints a count behind its label, or the refusal.
-pub fn count<P: Print>(out: &P, label: &[u8], res: CountResult) {
+pub fn count<P: Print>(to: &P, label: &[u8], res: CountResult) {
     match res {
-        CountResult::Count(count) => labelled(out, label, count, 4),
-        CountResult::Refused(question) => refusal(out, question),
+        CountResult::Count(count) => labelled(to, label, count, 4),
+        CountResult::Refused(question) => refusal(to, question),
     }
 }
 
 // Prints an octet.
-fn octet<P: Print>(out: &P, octet: u8) {
-    digits(out, octet as usize, 2);
+fn octet<P: Print>(to: &P, octet: u8) {
+    digits(to, octet as usize, 2);
 }
 
 // Prints octets, the first of them where there are more than `most`.
-pub fn octets<P: Print>(out: &P, octets: &[u8], most: usize) {
+pub fn octets<P: Print>(to: &P, octets: &[u8], most: usize) {
     let mut i = 0;
     while i < octets.len() {
         if i == most {
             return;
         }
-        octet(out, octets[i]);
+        octet(to, octets[i]);
         i += 1;
     }
 }
 
 // Prints a number of a list.
-fn entry<P: Print>(out: &P, value: u32, least: usize) {
-    number(out, value as usize, least);
+fn entry<P: Print>(to: &P, value: u32, least: usize) {
+    number(to, value as usize, least);
 }
 
 // Prints the numbers of a list, the first of them where there are more than `most`, each of at least that many digits.
-pub fn list<P: Print>(out: &P, list: &[u32], most: usize, least: usize) {
+pub fn list<P: Print>(to: &P, list: &[u32], most: usize, least: usize) {
     let mut i = 0;
     while i < list.len() {
         if i == most {
             return;
         }
-        entry(out, list[i], least);
+        entry(to, list[i], least);
         i += 1;
     }
 }
