@@ -13,7 +13,7 @@ use statistics::FrameStatistics;
 
 // What the analysis answers: the count of entries in the lent list or the question that failed, the validation and the
 // statistics. Where it refuses, the two are zeros.
-#[derive(Drop)]
+#[derive(Clone, Copy)]
 pub struct FrameAnalysis {
     pub patterns: CountResult,
     pub validation: ValidationResult,

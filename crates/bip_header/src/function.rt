@@ -6,7 +6,7 @@ ghost use Rattle.bip_header.specs.Function.{function_number, function_of, try_fr
 pub(crate) const LAST_FUNCTION: u8 = 0x0C;
 
 // Functions, in the order of bip.rs, which is not that of their numbers.
-#[derive(Drop)]
+#[derive(Clone, Copy)]
 pub enum BvlcFunction {
     Result,
     WriteBroadcastDistributionTable,
@@ -24,7 +24,7 @@ pub enum BvlcFunction {
 }
 
 // The function that a number names, if it names one.
-#[derive(Drop)]
+#[derive(Clone, Copy)]
 pub enum FunctionRead {
     Known(BvlcFunction),
     Unknown,

@@ -17,7 +17,7 @@ pub const BVLC_TYPE: u8 = 0x81;
 pub const BVLC_HEADER_SIZE: usize = 4;
 
 // A header: the type, the function, and how many octets the message says it has, these four among them.
-#[derive(Drop)]
+#[derive(Clone, Copy)]
 pub struct BvlcHeader {
     pub bvlc_type: u8,
     pub function: BvlcFunction,
@@ -25,7 +25,7 @@ pub struct BvlcHeader {
 }
 
 // What reading a header answers: the header, or the number of the first question that failed.
-#[derive(Drop)]
+#[derive(Clone, Copy)]
 pub enum BvlcDecoded {
     Header(BvlcHeader),
     Refused(u8),

@@ -27,7 +27,7 @@ const REGISTRATION_SIZE: usize = 6;
 
 // What a message carries: an NPDU, from an octet on to its end; a time to live; or nothing that is handed on. Or the
 // number of the first question that failed.
-#[derive(Drop)]
+#[derive(Clone, Copy)]
 pub enum BvlcMessage {
     Npdu(usize),
     TimeToLive(u16),

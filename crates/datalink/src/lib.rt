@@ -10,7 +10,7 @@ const HEADER_CHECK: u8 = 4;
 const DATA_CHECK: u8 = 6;
 
 // The Rust's error for a question.
-#[derive(Drop)]
+#[derive(Clone, Copy)]
 pub enum DataLinkError {
     InvalidFrame,
     CrcError,

@@ -13,7 +13,7 @@ ghost use Rattle.ethernet_decode.specs.RoundTrip.{WritesBack, FrameOf, OneForm, 
 use octets::AcceptResult;
 
 // What stands in the two octets after the addresses.
-#[derive(Drop)]
+#[derive(Clone, Copy)]
 pub enum EthernetForm {
     // 82 DC, as in the Rust.
     EtherType,
@@ -49,7 +49,7 @@ pub const MAX_ETHERNET_FRAME_SIZE: usize = 1514;
 const MAX_LENGTH: usize = MAX_ETHERNET_FRAME_SIZE - ETHERNET_HEADER_SIZE;
 
 // What reading answers: the result, both addresses, and how many octets of payload there are; zeros where it refuses.
-#[derive(Drop)]
+#[derive(Clone, Copy)]
 pub struct EthernetDecoded {
     pub result: AcceptResult,
     pub dest_mac: [u8; 6],

@@ -13,7 +13,7 @@ use Rattle.findings.specs.declared.LinkType.{LinkType}
 use Rattle.findings.specs.declared.ValidationResult.{ValidationResult}
 use Rattle.findings.specs.declared.Finding.{Finding}
 use Rattle.findings.specs.Finding.{unused, frame_too_short}
-use Rattle.findings.specs.Result.{Test, finds, found, filled, stored, errors_of, warnings_of, result}
+use Rattle.findings.specs.Result.{Test, finds, found, filled, stored, errors_of, warnings_of, validation_result}
 
 -- some tests and one behind them
 found_append : (tests : List Test) (test : Test) → found (tests ++ test ∷ []) ≡ found tests ++ found (test ∷ [])
@@ -88,14 +88,14 @@ next {n} {tests} {entries} {after} {count} {one} {more} {e} fires entry s room i
 module _ (link : LinkType) (size minimum : ℕ) (error_tests warning_tests : List Test) (P : Bool → Type 0)
     (promised : P (eqb (length (errors_of minimum size error_tests)) 0)) where
   abbrev Answer : ValidationResult → Type 0
-  Answer r = (r ≡ result link size (errors_of minimum size error_tests) (warnings_of minimum size warning_tests)) × P r.is_valid
+  Answer r = (r ≡ validation_result link size (errors_of minimum size error_tests) (warnings_of minimum size warning_tests)) × P r.is_valid
 
-  answer : {r : ValidationResult} → r ≡ result link size (errors_of minimum size error_tests) (warnings_of minimum size warning_tests) → Answer r
-  unfolding result
+  answer : {r : ValidationResult} → r ≡ validation_result link size (errors_of minimum size error_tests) (warnings_of minimum size warning_tests) → Answer r
+  unfolding validation_result
   answer e = (e, rw e promised)
 
   -- too short: that alone
-  pub short_answer : {r : ValidationResult} → size < minimum → r ≡ result link size (frame_too_short size minimum ∷ []) [] → Answer r
+  pub short_answer : {r : ValidationResult} → size < minimum → r ≡ validation_result link size (frame_too_short size minimum ∷ []) [] → Answer r
   unfolding errors_of warnings_of
   short_answer less is-r = answer (is-r ∙ rw (lt-ltb size minimum less))
 
@@ -112,5 +112,5 @@ module _ (link : LinkType) (size minimum : ℕ) (error_tests warning_tests : Lis
         warning_count = w;
       })
       → Answer r
-  unfolding result errors_of warnings_of
+  unfolding validation_result errors_of warnings_of
   stored_answer long e v is-r = answer (is-r ∙ rw (le-ltb size minimum long, e.are, e.many, v.are, v.many))

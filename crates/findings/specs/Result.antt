@@ -33,8 +33,8 @@ unfoldable pub filled : ℕ → List Finding → List Finding
 filled n findings = findings ++ replicate (n - length findings) unused
 
 -- a result of seven errors and two warnings at most; valid means no errors
-unfoldable pub result : LinkType → ℕ → List Finding → List Finding → ValidationResult
-result link size errors warnings = record {
+unfoldable pub validation_result : LinkType → ℕ → List Finding → List Finding → ValidationResult
+validation_result link size errors warnings = record {
   is_valid = eqb (length errors) 0;
   link_type = link;
   frame_size = size;

@@ -4,7 +4,7 @@
 ghost use Rattle.std.specs.Prelude.{◌≡◌, [], ◌∷◌};
 ghost use Rattle.findings.specs.Finding.{finding, frame_too_short};
 ghost use Rattle.findings.specs.Link.{link_number};
-ghost use Rattle.findings.specs.Result.{finds, stored, result, no_result};
+ghost use Rattle.findings.specs.Result.{finds, stored, validation_result, no_result};
 
 // Kinds of errors: the cases of `ValidationError`.
 pub const FRAME_TOO_SHORT: u8 = 1;
@@ -55,7 +55,7 @@ pub const SECURE_BVLL: usize = 1;
 pub const TABLE_CHANGED: usize = 2;
 
 // The link that a frame was taken for, if one was: the Rust's `Option<DataLinkType>`.
-#[derive(Drop)]
+#[derive(Clone, Copy)]
 pub enum LinkType {
     None,
     BacnetIp,
@@ -66,7 +66,7 @@ pub enum LinkType {
 impl LinkType {
     // The number of a link.
     pub fn to_u8(self) -> u8
-        ensures* { λ r. ⌜ r ≡ link_number self ⌝ }
+        ensures { result ≡ link_number self }
     {
         match self {
             LinkType::None => 0,
@@ -78,7 +78,7 @@ impl LinkType {
 }
 
 // An entry: a kind and what goes with it. An unused entry is all 0.
-#[derive(Drop)]
+#[derive(Clone, Copy)]
 pub struct Finding {
     pub kind: u8,
     pub first: usize,
@@ -94,7 +94,7 @@ pub const UNUSED: Finding = Finding {
 
 // The entry of a test: the one given where it fires, else an unused one.
 pub fn entry_if(fires: bool, kind: u8, first: usize, second: usize) -> Finding
-    ensures* { λ r. ⌜ r ≡ stored (finds fires (finding kind first second)) ⌝ }
+    ensures { result ≡ stored (finds fires (finding kind first second)) }
 {
     if fires {
         return Finding {
@@ -107,7 +107,7 @@ pub fn entry_if(fires: bool, kind: u8, first: usize, second: usize) -> Finding
 }
 
 // What a validator answers. Valid means no errors; the entries past a count are unused.
-#[derive(Drop)]
+#[derive(Clone, Copy)]
 pub struct ValidationResult {
     pub is_valid: bool,
     pub link_type: LinkType,
@@ -121,7 +121,7 @@ pub struct ValidationResult {
 impl ValidationResult {
     // Zeros: what stands where nothing was validated.
     pub fn zeros() -> ValidationResult
-        ensures* { λ r. ⌜ r ≡ no_result ⌝ }
+        ensures { result ≡ no_result }
     {
         ValidationResult {
             is_valid: false,
@@ -142,7 +142,7 @@ impl ValidationResult {
         first: usize,
         second: usize,
     ) -> ValidationResult
-        ensures* { λ r. ⌜ r ≡ result link_type frame_size (finding kind first second ∷ []) [] ⌝ }
+        ensures { result ≡ validation_result link_type frame_size (finding kind first second ∷ []) [] }
     {
         let error = Finding {
             kind,
@@ -161,7 +161,7 @@ impl ValidationResult {
     }
     // A result of a frame with fewer octets than the least that it must have: that error alone.
     pub fn too_short(link_type: LinkType, frame_size: usize, minimum: usize) -> ValidationResult
-        ensures* { λ r. ⌜ r ≡ result link_type frame_size (frame_too_short frame_size minimum ∷ []) [] ⌝ }
+        ensures { result ≡ validation_result link_type frame_size (frame_too_short frame_size minimum ∷ []) [] }
     {
         ValidationResult::one_error(link_type, frame_size, FRAME_TOO_SHORT, frame_size, minimum)
     }

@@ -8,7 +8,7 @@ ghost use Rattle.input.specs.Room.{Reads};
 use std::io::Read;
 
 // What one `read` says: that it failed, that the input has ended, or that so many more octets came.
-#[derive(Drop)]
+#[derive(Clone, Copy)]
 pub enum ReadAnswer {
     Failed,
     End,
@@ -17,7 +17,7 @@ pub enum ReadAnswer {
 
 // What reading to the end answers: the room is full, the input ended before it was, or a read failed; and how many octets
 // there are.
-#[derive(Drop)]
+#[derive(Clone, Copy)]
 pub enum InputRead {
     Full(usize),
     Ended(usize),

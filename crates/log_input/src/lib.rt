@@ -11,7 +11,7 @@ use std::io::Read;
 
 // What came of it: so many octets were read and their text is printed, so many octets of text; the log can't be read,
 // and nothing is printed; or the text can't be written.
-#[derive(Drop)]
+#[derive(Clone, Copy)]
 pub enum InputListed {
     Printed(usize, usize),
     NotRead,

@@ -11,7 +11,7 @@ ghost use Rattle.log_reading.specs.Cuts.{cuts, ReadsCuts};
 use log_record::RecordRead;
 
 // What a whole reading answers: how many records there are, and the answer behind them, which is no record.
-#[derive(Drop)]
+#[derive(Clone, Copy)]
 pub struct RecordsCounted {
     pub count: usize,
     pub last: RecordRead,

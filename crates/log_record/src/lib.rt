@@ -26,14 +26,14 @@ const SECOND_SIZE: usize = 4;
 pub const TRAILER_SIZE: usize = 3;
 
 // When a record was made: the second, of 32 bits, or no time.
-#[derive(Drop)]
+#[derive(Clone, Copy)]
 pub enum RecordTime {
     Second(u32),
     None,
 }
 
 // A record of a log: its kind, when it was made, the place of its first octet, and how many octets it has.
-#[derive(Drop)]
+#[derive(Clone, Copy)]
 pub struct LogRecord {
     pub kind: u8,
     pub time: RecordTime,
@@ -43,7 +43,7 @@ pub struct LogRecord {
 
 // What reading from an end answers: the record that ends there, that the log's start is reached, or the number of the
 // first question that failed.
-#[derive(Drop)]
+#[derive(Clone, Copy)]
 pub enum RecordRead {
     Record(LogRecord),
     StartReached,
@@ -101,9 +101,9 @@ fn time_before(log: &[u8], end: usize) -> RecordTime
 }
 
 // The record of a kind and of a time of so many octets that ends at an end of the log, or the question behind 41 that fails.
-fn record_of(log: &[u8], end: usize, kind: u8, time_octets: usize) -> RecordRead
+fn record_of(log: &[u8], end: usize, kind: u8, octets_of_time: usize) -> RecordRead
     requires { (3 ≤ end) × ((end ≤ length log.now) × ((kind ≡ kind_of (octet_before log.now end))
-        × (time_octets ≡ length (time_octets (time_before log.now end))))) }
+        × (octets_of_time ≡ length (time_octets (time_before log.now end))))) }
     ensures { result ≡ read_record log.now end }
 {
     if !known_kind(kind) {
@@ -113,7 +113,7 @@ fn record_of(log: &[u8], end: usize, kind: u8, time_octets: usize) -> RecordRead
     if !allowed_size(length) {
         return RecordRead::Refused(43);
     }
-    let size = length + (time_octets + TRAILER_SIZE);
+    let size = length + (octets_of_time + TRAILER_SIZE);
     if end < size {
         return RecordRead::Refused(44);
     }

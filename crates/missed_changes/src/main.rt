@@ -26,7 +26,7 @@ const LINE: usize = 56;
 const COUNT_LINE: usize = 35;
 
 // How many changes there were, how many of them were read, and whether the lines of these could be written.
-#[derive(Drop)]
+#[derive(Clone, Copy)]
 struct Tally {
     changes: usize,
     read: usize,

@@ -14,14 +14,14 @@ use crc::CheckRule;
 use mstp_frame::{MSTP_HEADER_SIZE, MSTP_LAST_TYPE, MstpFrameType};
 
 // The data check of a frame, present only if there are data.
-#[derive(Drop)]
+#[derive(Clone, Copy)]
 pub enum DataCrc {
     Present(u16),
     Absent,
 }
 
 // What `MstpFrame` holds, but for the data, which are a part of the caller's octets.
-#[derive(Drop)]
+#[derive(Clone, Copy)]
 pub struct MstpHeader {
     pub frame_type: MstpFrameType,
     pub destination: u8,
@@ -32,7 +32,7 @@ pub struct MstpHeader {
 }
 
 // What reading answers: the header, or the number of the first question that failed.
-#[derive(Drop)]
+#[derive(Clone, Copy)]
 pub enum MstpDecoded {
     Frame(MstpHeader),
     Refused(u8),

@@ -142,7 +142,7 @@ pub fn state_numbers(state: PaddingState) -> [usize; 3]
 }
 
 // What three numbers name: a state of the search for padding, or none.
-#[derive(Drop)]
+#[derive(Clone, Copy)]
 pub enum StateRead {
     Known(PaddingState),
     Unknown,

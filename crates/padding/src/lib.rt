@@ -7,7 +7,7 @@ ghost use Rattle.padding.specs.Laws.{Follows, Counts, StepExample, LengthExample
 
 // What is remembered of the octets so far: whether one came yet, the last one, and how many at the end, one behind another
 // and without index 0, equal it.
-#[derive(Drop)]
+#[derive(Clone, Copy)]
 pub struct PaddingState {
     pub started: bool,
     pub last: u8,

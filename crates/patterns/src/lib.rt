@@ -21,7 +21,7 @@ pub const ZEROS: u32 = 3;
 pub const SEQUENCE: u32 = 4;
 
 // An entry of the lent list.
-#[derive(Drop)]
+#[derive(Clone, Copy)]
 struct Entry {
     pattern: u32,
     start: u32,

@@ -3,7 +3,7 @@
 
 ghost use Rattle.std.specs.Prelude.{◌≡◌};
 ghost use mathlib.Core.List.{[], ◌∷◌, ◌++◌, flat_map};
-ghost use Rattle.findings.specs.Result.{result};
+ghost use Rattle.findings.specs.Result.{validation_result};
 ghost use Rattle.result_numbers.specs.Layout.{entry_numbers, result_numbers};
 
 use findings::{Finding, LinkType, ValidationResult};
@@ -16,7 +16,7 @@ fn with_entries(
     errors: [Finding; 7],
     warnings: [Finding; 2],
 ) -> [usize; 32]
-    ensures* { λ r. ⌜ r ≡ valid ∷ link ∷ counts ++ flat_map entry_numbers (errors ++ warnings) ⌝ }
+    ensures { result ≡ valid ∷ link ∷ counts ++ flat_map entry_numbers (errors ++ warnings) }
 {
     let a = errors[0];
     let b = errors[1];
@@ -66,7 +66,7 @@ fn with_entries(
 // The numbers of a validator's result: 1 if valid else 0, the link, the size, how many errors and warnings, and three
 // numbers for each of the seven entries of errors and the two of warnings.
 pub fn result_numbers(res: ValidationResult) -> [usize; 32]
-    ensures* { λ r. ⌜ r ≡ result_numbers res ⌝ }
+    ensures { result ≡ result_numbers res }
 {
     let link = res.link_type;
     let errors = res.errors;
@@ -83,7 +83,7 @@ pub fn result_numbers(res: ValidationResult) -> [usize; 32]
 
 // The numbers of a result without findings.
 pub fn clean_numbers(link: LinkType, size: usize) -> [usize; 32]
-    ensures* { λ r. ⌜ r ≡ result_numbers (result link size [] []) ⌝ }
+    ensures { result ≡ result_numbers (validation_result link size [] []) }
 {
     let mut numbers = [0; 32];
     numbers[0] = 1;

@@ -12,7 +12,7 @@ use crc::CheckRule;
 use run_search::FrameFound;
 
 // An answer of the finder, and the place to go on from.
-#[derive(Drop)]
+#[derive(Clone, Copy)]
 pub struct Step {
     pub found: FrameFound,
     pub next: usize,
@@ -34,7 +34,7 @@ pub fn step_at(rule: CheckRule, run: &[u8], place: usize) -> Step
 }
 
 // A run, and the place to go on from.
-#[derive(Drop)]
+#[derive(Clone, Copy)]
 pub struct FrameReader<'a> {
     pub run: &'a [u8],
     pub place: usize,

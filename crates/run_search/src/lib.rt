@@ -13,14 +13,14 @@ use crc::CheckRule;
 use mstp_frame::MSTP_HEADER_SIZE;
 
 // A frame found in a run: its place and its octet count.
-#[derive(Drop)]
+#[derive(Clone, Copy)]
 pub struct Report {
     pub place: usize,
     pub count: usize,
 }
 
 // What the finder answers: a report, "none", or the number of the first question that failed.
-#[derive(Drop)]
+#[derive(Clone, Copy)]
 pub enum FrameFound {
     Frame(Report),
     None,

@@ -9,7 +9,7 @@ ghost use Rattle.runs.specs.Longest.{longest, Longest, OnlyLongest};
 ghost use Rattle.runs.specs.Example.{Example};
 
 // A run of one value: its first place, the value, and how many octets it has.
-#[derive(Drop)]
+#[derive(Clone, Copy)]
 pub struct Run {
     pub start: usize,
     pub octet: u8,

@@ -10,7 +10,7 @@ use octets::AcceptResult;
 use runs::Run;
 
 // How many octets have each value, how many are 00, how many are 80 or more, and the longest run.
-#[derive(Drop)]
+#[derive(Clone, Copy)]
 pub struct FrameStatistics {
     pub byte_distribution: [u32; 256],
     pub null_bytes: usize,
@@ -37,7 +37,7 @@ impl FrameStatistics {
 }
 
 // What the statistics answer: the result, and the statistics, which are zeros where it refuses.
-#[derive(Drop)]
+#[derive(Clone, Copy)]
 pub struct StatisticsAnswer {
     pub result: AcceptResult,
     pub statistics: FrameStatistics,

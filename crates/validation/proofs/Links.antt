@@ -15,7 +15,7 @@ use Rattle.findings.specs.declared.LinkType.{LinkType}
 use Rattle.findings.specs.declared.LinkType.TheVariants.{None, BacnetIp, Ethernet, MsTP}
 use Rattle.findings.specs.declared.ValidationResult.{ValidationResult}
 use Rattle.findings.specs.Finding.{frame_too_short, invalid_header, undetermined}
-use Rattle.findings.specs.Result.{found, errors_of, result, faultless}
+use Rattle.findings.specs.Result.{found, errors_of, validation_result, faultless}
 use Rattle.findings.proofs.NoFindings.{clean}
 use Rattle.validation_mstp.proofs.NoFindings as mstp
 use Rattle.validation_ip.proofs.NoFindings as ip
@@ -37,8 +37,8 @@ unfolding frame_result
 result_is s rule e f g = g ∙ ap (λ (l : LinkType). result_of l rule s) (sym f ∙ e)
 
 -- no link is a fault
-pub no_link_at_fault : (size : ℕ) → false ≡ faultless (result None size (no_link_errors size) [])
-unfolding faultless result no_link_errors errors_of found
+pub no_link_at_fault : (size : ℕ) → false ≡ faultless (validation_result None size (no_link_errors size) [])
+unfolding faultless validation_result no_link_errors errors_of found
 no_link_at_fault size = by (ltb size 1)
   where
     by : (none : Bool) → false ≡ eqb (length (cond none (frame_too_short size 1 ∷ []) (invalid_header undetermined 0 ∷ []))) 0 && true
@@ -47,11 +47,11 @@ no_link_at_fault size = by (ltb size 1)
 
 -- the result of its link without findings is what is answered to a frame that gives none
 pub clean_frame : (rule : CheckRule) (s : List ℕ) {link : LinkType} → link ≡ link_of s → faultless (frame_result rule s) ≡ true
-    → result link (length s) [] [] ≡ frame_result rule s
+    → validation_result link (length s) [] [] ≡ frame_result rule s
 unfolding frame_result
 clean_frame rule s is-link none = rw is-link (by (link_of s) none)
   where
-    by : (at : LinkType) → faultless (result_of at rule s) ≡ true → result at (length s) [] [] ≡ result_of at rule s
+    by : (at : LinkType) → faultless (result_of at rule s) ≡ true → validation_result at (length s) [] [] ≡ result_of at rule s
     by None = clean None (length s) (no_link_errors (length s)) []
     by BacnetIp = ip.clean_message s
     by Ethernet = ethernet.clean_frame s

@@ -10,7 +10,7 @@ use Rattle.findings.specs.declared.LinkType.{LinkType}
 use Rattle.findings.specs.declared.LinkType.TheVariants.{None, BacnetIp, Ethernet, MsTP}
 use Rattle.findings.specs.declared.ValidationResult.{ValidationResult}
 use Rattle.findings.specs.Finding.{invalid_header, undetermined}
-use Rattle.findings.specs.Result.{finds, errors_of, result}
+use Rattle.findings.specs.Result.{finds, errors_of, validation_result}
 use Rattle.validation_mstp.specs.Tests.{mstp_result}
 use Rattle.validation_ip.specs.Tests.{bvlc_type, ip_result}
 use Rattle.validation_ethernet.specs.Tests.{ethernet_result}
@@ -25,7 +25,7 @@ no_link_errors size = errors_of 1 size (finds true (invalid_header undetermined 
 
 -- what the validator of a link answers
 abbrev pub result_of : LinkType → CheckRule → List ℕ → ValidationResult
-result_of None rule s = result None (length s) (no_link_errors (length s)) []
+result_of None rule s = validation_result None (length s) (no_link_errors (length s)) []
 result_of BacnetIp rule s = ip_result s
 result_of Ethernet rule s = ethernet_result s
 result_of MsTP rule s = mstp_result rule s

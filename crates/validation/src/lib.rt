@@ -7,7 +7,7 @@ ghost use Rattle.ethernet_decode.specs.Frame.{bacnet_type};
 ghost use Rattle.ethernet_decode.specs.Decode.{field_of};
 ghost use Rattle.validation_ip.specs.Tests.{bvlc_type};
 ghost use Rattle.findings.specs.declared.LinkType.TheVariants.{None};
-ghost use Rattle.findings.specs.Result.{result, faultless};
+ghost use Rattle.findings.specs.Result.{validation_result, faultless};
 ghost use Rattle.validation.specs.Frame.{link_of, no_link_errors, frame_result};
 
 use bip_header::BVLC_TYPE;
@@ -18,7 +18,7 @@ use mstp_frame::{MSTP_PREAMBLE_55, MSTP_PREAMBLE_FF};
 
 // Whether a frame begins 55 FF.
 fn begins_mstp(frame: &[u8]) -> bool
-    ensures* { λ r. ⌜ r ≡ begins_preamble frame.now ⌝ }
+    ensures { result ≡ begins_preamble frame.now }
 {
     if frame.len() < 2 {
         return false;
@@ -28,7 +28,7 @@ fn begins_mstp(frame: &[u8]) -> bool
 
 // Whether a frame begins 81.
 fn begins_bvlc(frame: &[u8]) -> bool
-    ensures* { λ r. ⌜ r ≡ eqb (bvlc_type frame.now) 0x81 ⌝ }
+    ensures { result ≡ eqb (bvlc_type frame.now) 0x81 }
 {
     if frame.len() < 1 {
         return false;
@@ -38,7 +38,7 @@ fn begins_bvlc(frame: &[u8]) -> bool
 
 // Whether a frame has 82 DC at octet 12.
 fn has_bacnet_type(frame: &[u8]) -> bool
-    ensures* { λ r. ⌜ r ≡ eqb (field_of frame.now) bacnet_type ⌝ }
+    ensures { result ≡ eqb (field_of frame.now) bacnet_type }
 {
     if frame.len() < 14 {
         return false;
@@ -48,7 +48,7 @@ fn has_bacnet_type(frame: &[u8]) -> bool
 
 // The link that a frame is taken for.
 pub fn link_of(frame: &[u8]) -> LinkType
-    ensures* { λ r. ⌜ r ≡ link_of frame.now ⌝ }
+    ensures { result ≡ link_of frame.now }
 {
     if begins_mstp(frame) {
         return LinkType::MsTP;
@@ -64,7 +64,7 @@ pub fn link_of(frame: &[u8]) -> LinkType
 
 // The result where no link is determined.
 fn no_link(size: usize) -> ValidationResult
-    ensures* { λ r. ⌜ r ≡ result None size (no_link_errors size) [] ⌝ }
+    ensures { result ≡ validation_result None size (no_link_errors size) [] }
 {
     if size < 1 {
         return ValidationResult::too_short(LinkType::None, size, 1);
@@ -74,7 +74,7 @@ fn no_link(size: usize) -> ValidationResult
 
 // Checks a frame by the validator of the link that its octets tell. The rule is for MS/TP.
 pub fn validate_frame(rule: CheckRule, frame: &[u8]) -> ValidationResult
-    ensures* { λ r. ⌜ r ≡ frame_result rule frame.now ⌝ }
+    ensures { result ≡ frame_result rule frame.now }
 {
     let link = link_of(frame);
     match link {
@@ -87,7 +87,7 @@ pub fn validate_frame(rule: CheckRule, frame: &[u8]) -> ValidationResult
 
 // Whether a frame gives neither an error nor a warning to the validator of its link. The rule is for MS/TP.
 pub fn faultless(rule: CheckRule, frame: &[u8]) -> bool
-    ensures* { λ r. ⌜ r ≡ faultless (frame_result rule frame.now) ⌝ }
+    ensures { result ≡ faultless (frame_result rule frame.now) }
 {
     let link = link_of(frame);
     match link {

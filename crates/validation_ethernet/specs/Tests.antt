@@ -10,7 +10,7 @@ use Rattle.findings.specs.declared.LinkType.TheVariants.{Ethernet}
 use Rattle.findings.specs.declared.ValidationResult.{ValidationResult}
 use Rattle.findings.specs.Finding.{frame_too_long, invalid_header, not_bacnet_type, not_bacnet_llc}
 use Rattle.findings.specs.Finding.{unusual_frame_size, non_standard_configuration, multicast_address}
-use Rattle.findings.specs.Result.{Test, finds, errors_of, warnings_of, result}
+use Rattle.findings.specs.Result.{Test, finds, errors_of, warnings_of, validation_result}
 
 -- the LLC header, three octets as one number
 unfoldable pub llc : List ℕ → ℕ
@@ -49,4 +49,4 @@ ethernet_warnings s = warnings_of 17 (length s) (warning_tests s)
 
 -- what the validator answers
 unfoldable pub ethernet_result : List ℕ → ValidationResult
-ethernet_result s = result Ethernet (length s) (ethernet_errors s) (ethernet_warnings s)
+ethernet_result s = validation_result Ethernet (length s) (ethernet_errors s) (ethernet_warnings s)

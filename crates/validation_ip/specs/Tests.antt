@@ -7,7 +7,7 @@ use Rattle.findings.specs.declared.LinkType.TheVariants.{BacnetIp}
 use Rattle.findings.specs.declared.ValidationResult.{ValidationResult}
 use Rattle.findings.specs.Finding.{frame_too_long, invalid_preamble, invalid_frame_type, payload_size_mismatch}
 use Rattle.findings.specs.Finding.{security_warning, secure_bvll, table_changed}
-use Rattle.findings.specs.Result.{Test, finds, errors_of, warnings_of, result}
+use Rattle.findings.specs.Result.{Test, finds, errors_of, warnings_of, validation_result}
 
 -- the type
 abbrev pub bvlc_type : List ℕ → ℕ
@@ -47,4 +47,4 @@ ip_warnings s = warnings_of 4 (length s) (warning_tests s)
 
 -- what the validator answers
 unfoldable pub ip_result : List ℕ → ValidationResult
-ip_result s = result BacnetIp (length s) (ip_errors s) (ip_warnings s)
+ip_result s = validation_result BacnetIp (length s) (ip_errors s) (ip_warnings s)

@@ -11,7 +11,7 @@ use Rattle.crc.specs.declared.CheckRule.{CheckRule}
 use Rattle.mstp_frame.specs.Fields.{frame_type, destination_of, source_of}
 use Rattle.findings.specs.declared.LinkType.TheVariants.{MsTP}
 use Rattle.findings.specs.Finding.{non_standard_configuration, proprietary_type, master_sends_to_slave}
-use Rattle.findings.specs.Result.{finds, found, errors_of, warnings_of, result, faultless}
+use Rattle.findings.specs.Result.{finds, found, errors_of, warnings_of, validation_result, faultless}
 use Rattle.findings.proofs.NoFindings.{clean}
 use Rattle.validation_mstp.specs.Tests.{master_to_slave, warning_tests, mstp_errors, errorless, mstp_warnings, mstp_result}
 
@@ -30,12 +30,12 @@ module _ (rule : CheckRule) (s : List ℕ) where
       by false false = refl
 
   pub short_fault : length s < 8 → false ≡ faultless (mstp_result rule s)
-  unfolding faultless mstp_result result mstp_errors errors_of
+  unfolding faultless mstp_result validation_result mstp_errors errors_of
   short_fault few = rw (lt-ltb (length s) 8 few)
 
   -- of octets enough: no error, and no test of warnings that fires
   faultless_is : 8 ≤ length s → faultless (mstp_result rule s) ≡ errorless rule s && eqb (length (found (warning_tests rule s))) 0
-  unfolding faultless mstp_result result mstp_warnings warnings_of
+  unfolding faultless mstp_result validation_result mstp_warnings warnings_of
   faultless_is long = rw (le-ltb (length s) 8 long)
 
   pub warning_fault : 8 ≤ length s → eqb (length (found (warning_tests rule s))) 0 ≡ false → false ≡ faultless (mstp_result rule s)
@@ -45,6 +45,6 @@ module _ (rule : CheckRule) (s : List ℕ) where
   no_warning long none = sym (faultless_is long ∙ rw none (and-true (errorless rule s)))
 
   -- the result without findings is what the validator answers of a frame that gives none
-  pub clean_frame : faultless (mstp_result rule s) ≡ true → result MsTP (length s) [] [] ≡ mstp_result rule s
+  pub clean_frame : faultless (mstp_result rule s) ≡ true → validation_result MsTP (length s) [] [] ≡ mstp_result rule s
   unfolding mstp_result
   clean_frame = clean MsTP (length s) (mstp_errors rule s) (mstp_warnings rule s)

@@ -13,7 +13,7 @@ use Rattle.findings.specs.declared.LinkType.TheVariants.{MsTP}
 use Rattle.findings.specs.declared.ValidationResult.{ValidationResult}
 use Rattle.findings.specs.Finding.{invalid_preamble, crc_mismatch, invalid_frame_type, invalid_address, invalid_header, payload_size_mismatch}
 use Rattle.findings.specs.Finding.{non_standard_configuration, broadcast_source, length_above_501, proprietary_type, master_sends_to_slave}
-use Rattle.findings.specs.Result.{Test, finds, errors_of, warnings_of, result}
+use Rattle.findings.specs.Result.{Test, finds, errors_of, warnings_of, validation_result}
 
 -- there are data, and enough octets for them and their check
 unfoldable pub data_check_there : List ℕ → Bool
@@ -62,4 +62,4 @@ mstp_warnings rule s = warnings_of 8 (length s) (warning_tests rule s)
 
 -- what the validator answers
 unfoldable pub mstp_result : CheckRule → List ℕ → ValidationResult
-mstp_result rule s = result MsTP (length s) (mstp_errors rule s) (mstp_warnings rule s)
+mstp_result rule s = validation_result MsTP (length s) (mstp_errors rule s) (mstp_warnings rule s)

@@ -2,9 +2,8 @@
 -- Assumes nothing.
 use Prim.Native.Nat.{◌+◌}
 use native.Mathlib.Omega.{arith}
-use mathlib.Core.Logic.{⊎_elim}
 use Rattle.runs.proofs.Walk.{Ends, ends_start, ends_on, ends_new, at_start, at_new, at_on, no_octets, place_inside, is_longest}
-use Rattle.runs.proofs.longest_run.Goals.{Joined-x-last}
+use Rattle.runs.proofs.longest_run.Goals.{Joined-x-last, then-x-last, else-x-last, then-length-n, else-length-n}
 use Rattle.runs.proofs.longest_run.Goals as goal
 
 pub returns-then-s-eq0 : goal.returns-then-s-eq0
@@ -17,11 +16,13 @@ loop-i-init c = let s = c.args.s.now in (omega arith, (at_start s, ends_start s)
 
 -- the run that the octets up to i end with
 ends : (c : goal.Joined-x-last)
-    → Ends c.args.s.now (c.loop-i.i + 1) c.if-x-last.start c.if-x-last.new
+    → Ends c.args.s.now (c.loop-i.i + 1) c.if-x-last.start c.if-x-last.last
 ends c =
     let h = c.loop-i-test.true in
-    ⊎_elim (λ w. rw (w.1, w.2) (ends_new _ _ h c.loop-i.invariant.1.1 w.0.taken))
-    (λ w. rw (w.1, w.2) (ends_on _ _ h c.loop-i.invariant.1.1 w.0.left)) c.if-x-last.branch
+    elim c.if-x-last.branch [
+      then-x-last w ↦ rw (w.start-is, w.last-is) (ends_new _ _ h c.loop-i.invariant.1.1 w.if-x-last.true)
+    | else-x-last w ↦ rw (w.start-is, w.last-is) (ends_on _ _ h c.loop-i.invariant.1.1 w.if-x-last.false)
+    ]
 
 pub overflow_sub-n : goal.overflow_sub-n
 overflow_sub-n c = omega (arith, (ends (goal.at.overflow_sub-n c).Joined-x-last).count)
@@ -32,8 +33,10 @@ loop-i-preserved c =
     let e = ends (goal.at.loop-i-preserved c).Joined-x-last in (
       omega arith,
       (
-        ⊎_elim (λ w. rw (w.1, w.2) (at_new _ _ h c.loop-i.invariant.1.0 e w.0.taken))
-            (λ w. rw (w.1, w.2) (at_on _ _ h c.loop-i.invariant.1.0 e w.0.left)) c.if-length-n.branch,
+        elim c.if-length-n.branch [
+          then-length-n w ↦ rw (w.place-is, w.length-is) (at_new _ _ h c.loop-i.invariant.1.0 e w.if-length-n.true)
+        | else-length-n w ↦ rw (w.place-is, w.length-is) (at_on _ _ h c.loop-i.invariant.1.0 e w.if-length-n.false)
+        ],
         e,
       ),
     )

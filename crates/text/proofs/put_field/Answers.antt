@@ -11,27 +11,27 @@ use Rattle.octets.proofs.Puts.{put_call, put_size, put_equal}
 use Rattle.text.specs.Text.{letters, decimal, field}
 use Rattle.text.proofs.Decimals.{fewest_decimal, length_field}
 use Rattle.text.proofs.Texts.{put_up_to}
-use Rattle.text.proofs.put_field.Goals.{After-decimal-k, After-put-behind}
+use Rattle.text.proofs.put_field.Goals.{After-put-behind}
 use Rattle.text.proofs.put_field.Goals as goal
 
 -- the digits that `io::decimal` has spelled
-spelled : (c : goal.After-decimal-k) → take c.decimal-k.result c.decimal-k.new.out ≡ decimal c.args.n
+spelled : (c : goal.After-put-behind) → take c.decimal-k.result c.decimal-k.new.out ≡ decimal c.args.n
 spelled c = c.decimal-k.ensures.digits ∙ fewest_decimal _ c.decimal-k.result c.decimal-k.ensures.len
 
 -- are put behind the first of 21 spaces
 first : (c : goal.After-put-behind) → Put (take c.decimal-k.result c.decimal-k.new.out) (letters "                     ") 1 c.put-behind.new.out c.put-behind.result
 unfolding field
 first c =
-    put_call _ _ 1 (omega (arith, ap length (spelled c.before.before.before), length_field 19 c.args.n (omega (arith, c.ranges.n)))) c.put-behind.ensures.value c.put-behind.ensures.output
+    put_call _ _ 1 (omega (arith, ap length (spelled c), length_field 19 c.args.n (omega (arith, c.ranges.n)))) c.put-behind.ensures.value c.put-behind.ensures.output
 
 -- so the place behind them is within the text
 within : (c : goal.After-put-behind) → c.put-behind.result ≤ length c.put-behind.new.out
-within c = omega (arith, (first c).ranges, put_size (first c))
+within c = omega (arith, (first c).fits, put_size (first c))
 
 -- and up to it stands the field
 field-there : (c : goal.After-put-behind) → take c.put-behind.result c.put-behind.new.out ≡ field c.args.n
 unfolding field
-field-there c = put_up_to (first c) ∙ ap (λ (l : List ℕ). letters " " ++ l) (spelled c.before.before.before)
+field-there c = put_up_to (first c) ∙ ap (λ (l : List ℕ). letters " " ++ l) (spelled c)
 
 pub slice_bounds-text-end : goal.slice_bounds-text-end
 slice_bounds-text-end c = within (goal.at.slice_bounds-text-end c).After-put-behind

@@ -54,4 +54,4 @@ unfolding function_of
 returns-in-11 c = rw c.in-11.is
 
 pub returns-in_default : goal.returns-in_default
-returns-in_default c = function_last _ (from_next 12 _ c.in-0.rest)
+returns-in_default c = function_last _ (from_next 12 _ c.in_default.in_default-own.rest)
