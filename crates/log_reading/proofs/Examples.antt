@@ -36,4 +36,6 @@ written =
 
 pub example : Example
 unfolding log_of records_of record_octets time_octets kind_octet
-example = record { writes = writes; written = written; reads = reads_written (take 23 behind) 23 (counts_back (take 23 behind) 23 refl) behind entries written refl }
+example =
+    let gives = reads_written (take 23 behind) 23 (counts_back (take 23 behind) 23 refl) behind entries written refl in
+    record { writes = writes; written = written; read = gives.read; payloads = gives.payloads; count = gives.count }
