@@ -17,7 +17,7 @@ use Rattle.log_reading.specs.Written.{entry_in, ReadsAs}
 use Rattle.log_reading.specs.Torn.{whole_entries, rest}
 use Rattle.log_reading.proofs.Reading.{whole_back, counts_back}
 use Rattle.log_reading.proofs.Torn.{reads_torn}
-use Rattle.log_reading.proofs.Written.{reads_written}
+use Rattle.log_reading.proofs.Written.{reads_all}
 use Rattle.text.specs.Text.{letters}
 use Rattle.octets.specs.Put.{Put}
 use Rattle.log_listing.specs.Listing.{entry_line, line_of, last_line, lines, log_lines, if_read, listing, ListsWritten, ListsTorn}
@@ -48,7 +48,7 @@ reads_lines log l es reads =
     ∙ ap (λ (t : List ℕ). t ++ last_line l.last) (entries_lines log l.records ∙ ap (flat_map entry_line) reads.entries))
 
 lists_written : (log : List ℕ) → ListsWritten log
-lists_written log buffer es w front = reads_lines log _ es (reads_written log (length log) (counts_back log (length log) refl) buffer es w (take-length log ∙ front))
+lists_written log buffer es w front = reads_lines log _ es (reads_all log (length log) (counts_back log (length log) refl) buffer es w (take-length log ∙ front))
 
 lists_torn : (log : List ℕ) → ListsTorn log
 lists_torn log buffer es lost w front =

@@ -33,7 +33,7 @@ module _ (rule : CheckRule) (run : List ℕ) where
   comes : {rs later : List Report} {place : ℕ} → Called rule run rs place → CallsGive rule run place later
       → (p : ℕ) × (all : List Report) × Ended rule run p (find rule run p) all
   comes {rs} {place = place} before (end e) = (place, rs, record { called = before; none = e })
-  comes before (next e on) = comes (more before e) on
+  comes {rs} before (next {r = r} e on) = comes {rs = rs ++ (r ∷ [])} (more before e) on
 
   module _ (octets : Octets run) where
     module _ (fits : length run ≤ 65535) where

@@ -1,5 +1,5 @@
 // A reader that borrows a run and remembers its place: each `next` answers what the finder says from there. The work is
-// `step_at`, for callers who keep the place themselves; the functions over the struct are thin, and proved by hand.
+// `step_at`, for callers who keep the place themselves; the functions over the struct are thin.
 #![tactic(auto)]
 
 ghost use Rattle.std.specs.Prelude.{◌≡◌, []};
