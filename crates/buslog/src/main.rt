@@ -2,18 +2,19 @@
 // nothing is printed and standard error has a message.
 #![tactic(auto)]
 
-use libc::{STDERR_FILENO, STDIN_FILENO};
 use log_input::{InputListed, ROOM};
 
 // Says why there is no listing.
-fn complain(message: &[u8]) {
-    io::write_all(STDERR_FILENO, message);
+fn complain<P: Print>(to: &P, message: &[u8]) {
+    let _ = to.write_all(message);
 }
 
-fn main() {
-    match log_input::list_input(STDIN_FILENO, ROOM) {
+fn main(rt: HostRuntime) {
+    match log_input::list_input(&rt, &mut rt.stdin(), ROOM) {
         InputListed::Printed(_, _) => {}
-        InputListed::NotRead => complain(b"buslog: standard input cannot be read\n"),
-        InputListed::NotWritten => complain(b"buslog: standard output cannot be written\n"),
+        InputListed::NotRead => complain(&rt.stderr(), b"buslog: standard input cannot be read\n"),
+        InputListed::NotWritten => {
+            complain(&rt.stderr(), b"buslog: standard output cannot be written\n")
+        }
     }
 }

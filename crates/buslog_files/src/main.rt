@@ -3,59 +3,41 @@
 // printed.
 #![tactic(auto)]
 
-use libc::STDOUT_FILENO;
 use log_input::{InputListed, ROOM};
+use std::fs::File;
+use std::io::Read;
+use std::{env, io};
 
-// Prints some letters.
-fn print(letters: &[u8]) {
-    io::write_all(STDOUT_FILENO, letters);
-}
-
-// Lists what a descriptor has.
-fn list_from(fd: i32, piece: usize) {
-    match log_input::list_input(fd, piece) {
-        InputListed::Printed(_, _) => {}
-        InputListed::NotRead => print(b"not read\n"),
-        InputListed::NotWritten => {}
+// Lists what a reader has.
+fn list_from<R: Read>(rt: &HostRuntime, from: &mut R, piece: usize) -> io::Result<()> {
+    match log_input::list_input(rt, from, piece) {
+        InputListed::Printed(_, _) => Ok(()),
+        InputListed::NotRead => println!(rt; "not read"),
+        InputListed::NotWritten => Ok(()),
     }
 }
 
 // Prints a name, and lists the log that it names.
-fn list_file(name: &[u8], piece: usize) {
-    print(name);
-    print(b"\n");
-    let fd = os::open_read(name);
-    if fd < 0 {
-        os::fail(name);
-        return;
+fn list_file(rt: &HostRuntime, name: &str, piece: usize) -> io::Result<()> {
+    println!(rt; "{name}")?;
+    match File::open(rt, name) {
+        Ok(mut log) => list_from(rt, &mut log, piece),
+        Err(e) => eprintln!(rt; "{name}: {e}"),
     }
-    list_from(fd, piece);
-    libc::close(fd);
-}
-
-// Lists the log that argument i names.
-fn list_argument(i: usize, piece: usize) {
-    let mut name = io::buffer();
-    let n = os::arg(i, &mut name);
-    list_file(&name[..n], piece);
 }
 
 // Lists every log, by reads that ask for at most `piece` octets.
-fn list_all(piece: usize) {
-    print(b"pieces of ");
-    io::print_decimal(STDOUT_FILENO, piece as u64);
-    print(b"\n");
-    let count = os::arg_count();
-    let mut i = 1;
-    while i < count {
-        list_argument(i, piece);
-        i += 1;
+fn list_all(rt: &HostRuntime, piece: usize) -> io::Result<()> {
+    println!(rt; "pieces of {piece}")?;
+    for name in env::args(rt)?.skip(1) {
+        list_file(rt, name.as_str(), piece)?;
     }
+    Ok(())
 }
 
-fn main() {
-    list_all(ROOM);
-    list_all(5);
-    list_all(1);
-    list_all(0);
+fn main(rt: HostRuntime) -> io::Result<()> {
+    list_all(&rt, ROOM)?;
+    list_all(&rt, 5)?;
+    list_all(&rt, 1)?;
+    list_all(&rt, 0)
 }

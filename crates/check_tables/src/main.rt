@@ -8,7 +8,6 @@ ghost use Rattle.io.specs.Counts.{IsPrefixLen};
 ghost use Rattle.check_tables.specs.Text.{table_lines, rule_text, tables_text};
 
 use crc::CheckRule;
-use libc::{STDERR_FILENO, STDOUT_FILENO};
 
 // The octets of the text: two header tables of 256 lines of three, and two data tables of 256 lines of five.
 const TEXT: usize = 4096;
@@ -60,13 +59,12 @@ fn write_tables(out: &mut [u8; TEXT]) -> usize
     put_rule(CheckRule::House, out, behind)
 }
 
-fn main() {
+fn main(rt: HostRuntime) {
     let mut text = [0u8; TEXT];
     let n = write_tables(&mut text);
-    if !io::write_all(STDOUT_FILENO, &text[..n]) {
-        io::write_all(
-            STDERR_FILENO,
-            b"check_tables: standard output cannot be written\n",
-        );
+    if rt.write_all(&text[..n]).is_err() {
+        let _ = rt
+            .stderr()
+            .write_all(b"check_tables: standard output cannot be written\n");
     }
 }

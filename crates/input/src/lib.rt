@@ -1,9 +1,11 @@
-// Reading a descriptor to its end.
+// Reading to the end of what can be read.
 #![tactic(auto)]
 
 ghost use Rattle.std.specs.Prelude.{◌<◌, ◌≡◌, length};
 ghost use Rattle.input.specs.Answer.{answered, most_asked, Came};
 ghost use Rattle.input.specs.Room.{Reads};
+
+use std::io::Read;
 
 // What one `read` says: that it failed, that the input has ended, or that so many more octets came.
 #[derive(Clone, Copy)]
@@ -49,24 +51,28 @@ fn most_asked(piece: usize, room: usize) -> usize
 }
 
 // One `read` of at most a piece, to the front of a room that is not empty.
-fn read_piece(fd: i32, piece: usize, out: &mut [u8]) -> ReadAnswer
+fn read_piece<R: Read>(from: &mut R, piece: usize, out: &mut [u8]) -> ReadAnswer
     requires { 0 < length out.old }
     ensures { Came result (most_asked piece (length out.old)) }
 {
     let room = out.len();
     let most = most_asked(piece, room);
-    read_answer(libc::read(fd, &mut out[..most]))
+    let got = match from.read(&mut out[..most]) {
+        Ok(n) => n as isize,
+        Err(_) => -1,
+    };
+    read_answer(got)
 }
 
 // Reads from a descriptor to the front of `out` until the input ends, `out` is full or a read fails, and says which. Each
 // read asks for at most `piece` octets, where 0 counts as 1. Which octets come, and when a read fails or says that the
 // input has ended, no contract can say.
-pub fn read_to_end(fd: i32, piece: usize, out: &mut [u8]) -> InputRead
+pub fn read_to_end<R: Read>(from: &mut R, piece: usize, out: &mut [u8]) -> InputRead
     ensures { Reads result (length out.new) }
 {
     let mut n = 0;
     while n < out.len() {
-        match read_piece(fd, piece, &mut out[n..]) {
+        match read_piece(from, piece, &mut out[n..]) {
             ReadAnswer::Failed => return InputRead::Failed,
             ReadAnswer::End => return InputRead::Ended(n),
             ReadAnswer::More(more) => n += more,

@@ -12,7 +12,6 @@ ghost use Rattle.missed_changes.specs.Changes.{of_octet, of_place, of_frame, of_
 ghost use Rattle.missed_changes.specs.Text.{spaced, change_line, count_line};
 
 use crc::CheckRule;
-use libc::{STDERR_FILENO, STDOUT_FILENO};
 use mstp_decode::MstpDecoded;
 use mstp_frame::{MSTP_HEADER_SIZE, MstpFrameType};
 use octets::CountResult;
@@ -94,7 +93,14 @@ fn change_line(frame: [u8; FRAME], changed: [u8; FRAME]) -> [u8; LINE]
 }
 
 // Puts an octet at a place of a frame of n octets. Prints the change, where it is one, if it is read.
-fn change(rule: CheckRule, frame: [u8; FRAME], n: usize, place: usize, octet: u8) -> Tally
+fn change<P: Print>(
+    to: &P,
+    rule: CheckRule,
+    frame: [u8; FRAME],
+    n: usize,
+    place: usize,
+    octet: u8,
+) -> Tally
     requires { (place < n) × (n ≤ 13) }
     ensures { Tallies rule (λ test. of_octet test (take n frame) place octet) result }
 {
@@ -110,36 +116,43 @@ fn change(rule: CheckRule, frame: [u8; FRAME], n: usize, place: usize, octet: u8
     Tally {
         changes: 1,
         read: 1,
-        written: io::write_all(STDOUT_FILENO, &line),
+        written: to.write_all(&line).is_ok(),
     }
 }
 
 // Every octet at a place.
-fn change_place(rule: CheckRule, frame: [u8; FRAME], n: usize, place: usize) -> Tally
+fn change_place<P: Print>(
+    to: &P,
+    rule: CheckRule,
+    frame: [u8; FRAME],
+    n: usize,
+    place: usize,
+) -> Tally
     requires { (place < n) × (n ≤ 13) }
     ensures { Tallies rule (λ test. of_place test (take n frame) place) result }
 {
     let mut tally = counted(0, 0);
     for octet in 0..256usize {
-        tally = plus(tally, change(rule, frame, n, place, octet as u8));
+        tally = plus(tally, change(to, rule, frame, n, place, octet as u8));
     }
     tally
 }
 
 // Every octet at each of the five places that the header check covers, from 2 on.
-fn change_frame(rule: CheckRule, frame: [u8; FRAME], n: usize) -> Tally
+fn change_frame<P: Print>(to: &P, rule: CheckRule, frame: [u8; FRAME], n: usize) -> Tally
     requires { (8 ≤ n) × (n ≤ 13) }
     ensures { Tallies rule (λ test. of_frame test (take n frame)) result }
 {
     let mut tally = counted(0, 0);
     for i in 0..5usize {
-        tally = plus(tally, change_place(rule, frame, n, i + 2));
+        tally = plus(tally, change_place(to, rule, frame, n, i + 2));
     }
     tally
 }
 
 // A new frame with at most three data octets.
-fn change_written(
+fn change_written<P: Print>(
+    to: &P,
     rule: CheckRule,
     frame_type: MstpFrameType,
     destination: u8,
@@ -151,36 +164,45 @@ fn change_written(
 {
     let mut frame = [0u8; FRAME];
     match mstp_encode::encode(rule, frame_type, destination, source, body, &mut frame) {
-        CountResult::Count(n) => change_frame(rule, frame, n),
+        CountResult::Count(n) => change_frame(to, rule, frame, n),
         CountResult::Refused(_) => counted(0, 0),
     }
 }
 
 // A frame without data, and one with three octets.
-fn change_pair(rule: CheckRule, frame_type: MstpFrameType, destination: u8, source: u8) -> Tally
+fn change_pair<P: Print>(
+    to: &P,
+    rule: CheckRule,
+    frame_type: MstpFrameType,
+    destination: u8,
+    source: u8,
+) -> Tally
     ensures { Tallies rule (λ test. of_pair test rule frame_type destination source) result }
 {
-    let without = change_written(rule, frame_type, destination, source, b"");
-    let with = change_written(rule, frame_type, destination, source, b"\x01\x02\x03");
+    let without = change_written(to, rule, frame_type, destination, source, b"");
+    let with = change_written(to, rule, frame_type, destination, source, b"\x01\x02\x03");
     plus(without, with)
 }
 
 // A type's frames: to 10 from 05, and to FF from 82.
-fn change_type(rule: CheckRule, frame_type: MstpFrameType) -> Tally
+fn change_type<P: Print>(to: &P, rule: CheckRule, frame_type: MstpFrameType) -> Tally
     ensures { Tallies rule (λ test. of_type test rule frame_type) result }
 {
-    let first = change_pair(rule, frame_type, 0x10, 0x05);
-    let second = change_pair(rule, frame_type, 0xFF, 0x82);
+    let first = change_pair(to, rule, frame_type, 0x10, 0x05);
+    let second = change_pair(to, rule, frame_type, 0xFF, 0x82);
     plus(first, second)
 }
 
 // All types' frames.
-fn change_all(rule: CheckRule) -> Tally
+fn change_all<P: Print>(to: &P, rule: CheckRule) -> Tally
     ensures { Tallies rule (λ test. of_all test rule) result }
 {
     let mut tally = counted(0, 0);
     for number in 0..8usize {
-        tally = plus(tally, change_type(rule, mstp_frame::type_of(number as u8)));
+        tally = plus(
+            tally,
+            change_type(to, rule, mstp_frame::type_of(number as u8)),
+        );
     }
     tally
 }
@@ -198,22 +220,21 @@ fn put_count_line(name: &[u8], changes: usize, read: usize, out: &mut [u8], at: 
 }
 
 // Prints what is read under a rule, and the counts. Answers whether all of it could be written.
-fn print_rule(name: &[u8], rule: CheckRule) -> bool
+fn print_rule<P: Print>(to: &P, name: &[u8], rule: CheckRule) -> bool
     requires { length name.now ≤ 8 }
 {
-    let tally = change_all(rule);
+    let tally = change_all(to, rule);
     let mut line = [0u8; COUNT_LINE];
     let n = put_count_line(name, tally.changes, tally.read, &mut line, 0);
-    io::write_all(STDOUT_FILENO, &line[..n]) && tally.written
+    to.write_all(&line[..n]).is_ok() && tally.written
 }
 
-fn main() {
-    let house = print_rule(b"house:", CheckRule::House);
-    let annex_g = print_rule(b"Annex G:", CheckRule::AnnexG);
+fn main(rt: HostRuntime) {
+    let house = print_rule(&rt, b"house:", CheckRule::House);
+    let annex_g = print_rule(&rt, b"Annex G:", CheckRule::AnnexG);
     if !(house && annex_g) {
-        io::write_all(
-            STDERR_FILENO,
-            b"missed_changes: standard output cannot be written\n",
-        );
+        let _ = rt
+            .stderr()
+            .write_all(b"missed_changes: standard output cannot be written\n");
     }
 }

@@ -21,9 +21,9 @@ pub(crate) fn space(octet: u8) -> [u8; 65600]
 }
 
 // Prints a space and octets, or the first of very many.
-pub(crate) fn print_octets(octets: &[u8]) {
-    print::letters(b" ");
-    print::octets(octets, MOST);
+pub(crate) fn print_octets<P: Print>(to: &P, octets: &[u8]) {
+    print::letters(to, b" ");
+    print::octets(to, octets, MOST);
 }
 
 // How many octets an answer shows of an output of that size, and of the octets behind it.
@@ -44,16 +44,21 @@ fn letter(question: u8) -> u8 {
 }
 
 // Prints E, the letter of the Rust's error and the question.
-pub(crate) fn print_refusal(question: u8) {
-    print::labelled(&[b'E', letter(question)], question as usize, 2);
+pub(crate) fn print_refusal<P: Print>(to: &P, question: u8) {
+    print::labelled(to, &[b'E', letter(question)], question as usize, 2);
 }
 
 // Prints what a writer answered, the count or the refusal, then its output of that size and some octets behind it.
-pub(crate) fn print_written(written: CountResult, out: &[u8; 65600], size: usize) {
+pub(crate) fn print_written<P: Print>(
+    to: &P,
+    written: CountResult,
+    out: &[u8; 65600],
+    size: usize,
+) {
     match written {
-        CountResult::Count(count) => print::labelled(b"F", count, 4),
-        CountResult::Refused(question) => print_refusal(question),
+        CountResult::Count(count) => print::labelled(to, b"F", count, 4),
+        CountResult::Refused(question) => print_refusal(to, question),
     }
-    print::letters(b" ");
-    print::octets(out, shown(size));
+    print::letters(to, b" ");
+    print::octets(to, out, shown(size));
 }

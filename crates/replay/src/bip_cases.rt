@@ -6,31 +6,31 @@ use octets::CountResult;
 use replay_cases::print;
 
 // Reading of the header in front.
-pub(crate) fn header(input: &[u8]) {
+pub(crate) fn header<P: Print>(to: &P, input: &[u8]) {
     match bip_header::decode(input) {
-        BvlcDecoded::Header(header) => print_header(header),
-        BvlcDecoded::Refused(question) => answers::print_refusal(question),
+        BvlcDecoded::Header(header) => print_header(to, header),
+        BvlcDecoded::Refused(question) => answers::print_refusal(to, question),
     }
 }
 
 // Prints F and the fields of a header.
-fn print_header(header: BvlcHeader) {
+fn print_header<P: Print>(to: &P, header: BvlcHeader) {
     let function = header.function;
     let octets = [header.bvlc_type, function.to_u8()];
-    print::letters(b"F");
-    answers::print_octets(&octets);
-    print::digits(header.length as usize, 4);
+    print::letters(to, b"F");
+    answers::print_octets(to, &octets);
+    print::digits(to, header.length as usize, 4);
 }
 
 // What a message carries, then its NPDU.
-pub(crate) fn npdu(input: &[u8]) {
+pub(crate) fn npdu<P: Print>(to: &P, input: &[u8]) {
     match bip_message::process_bvlc_message(input) {
-        BvlcMessage::Npdu(_) => print::letters(b"N"),
-        BvlcMessage::TimeToLive(seconds) => print::labelled(b"T", seconds as usize, 4),
-        BvlcMessage::NoNpdu => print::letters(b"O"),
-        BvlcMessage::Refused(question) => answers::print_refusal(question),
+        BvlcMessage::Npdu(_) => print::letters(to, b"N"),
+        BvlcMessage::TimeToLive(seconds) => print::labelled(to, b"T", seconds as usize, 4),
+        BvlcMessage::NoNpdu => print::letters(to, b"O"),
+        BvlcMessage::Refused(question) => answers::print_refusal(to, question),
     }
-    answers::print_octets(bip_message::npdu(input));
+    answers::print_octets(to, bip_message::npdu(input));
 }
 
 // Writes a header: function and length.

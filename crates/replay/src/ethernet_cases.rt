@@ -7,23 +7,23 @@ use octets::{AcceptResult, CountResult};
 use replay_cases::print;
 
 // Prints F, or the refusal.
-pub(crate) fn print_result(res: AcceptResult) {
+pub(crate) fn print_result<P: Print>(to: &P, res: AcceptResult) {
     match res {
-        AcceptResult::Accepted => print::letters(b"F"),
-        AcceptResult::Refused(question) => answers::print_refusal(question),
+        AcceptResult::Accepted => print::letters(to, b"F"),
+        AcceptResult::Refused(question) => answers::print_refusal(to, question),
     }
 }
 
 // Reading in a form: the result, the addresses and the payload.
-pub(crate) fn reading(form: EthernetForm, input: &[u8]) {
+pub(crate) fn reading<P: Print>(to: &P, form: EthernetForm, input: &[u8]) {
     let decoded = ethernet_decode::decode(form, input);
     let result = decoded.result;
     let destination = decoded.dest_mac;
     let source = decoded.src_mac;
-    print_result(result);
-    answers::print_octets(&destination);
-    answers::print_octets(&source);
-    answers::print_octets(ethernet_decode::payload(form, input));
+    print_result(to, result);
+    answers::print_octets(to, &destination);
+    answers::print_octets(to, &source);
+    answers::print_octets(to, ethernet_decode::payload(form, input));
 }
 
 // The six octets of an address that starts at a place.

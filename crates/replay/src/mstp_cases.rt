@@ -9,7 +9,7 @@ use octets::CountResult;
 use replay_cases::print;
 
 // The header check of five octets, as an array and as a slice.
-pub(crate) fn header_check(rule: CheckRule, input: &[u8]) {
+pub(crate) fn header_check<P: Print>(to: &P, rule: CheckRule, input: &[u8]) {
     if input.len() != 5 {
         return;
     }
@@ -18,30 +18,30 @@ pub(crate) fn header_check(rule: CheckRule, input: &[u8]) {
         crc::calculate_header_crc(rule, header),
         crc::header_crc(rule, input),
     ];
-    answers::print_octets(&checks);
+    answers::print_octets(to, &checks);
 }
 
 // Reading: the header or the refusal, then the data.
-pub(crate) fn reading(rule: CheckRule, frame: &[u8]) {
+pub(crate) fn reading<P: Print>(to: &P, rule: CheckRule, frame: &[u8]) {
     match mstp_decode::decode(rule, frame) {
-        MstpDecoded::Frame(header) => print_header(header),
-        MstpDecoded::Refused(question) => answers::print_refusal(question),
+        MstpDecoded::Frame(header) => print_header(to, header),
+        MstpDecoded::Refused(question) => answers::print_refusal(to, question),
     }
-    answers::print_octets(mstp_decode::frame_data(rule, frame));
+    answers::print_octets(to, mstp_decode::frame_data(rule, frame));
 }
 
 // Prints F, the fields of a header, and its data check, if there is one.
-fn print_header(header: MstpHeader) {
+fn print_header<P: Print>(to: &P, header: MstpHeader) {
     let frame_type = header.frame_type;
     let data_crc = header.data_crc;
     let octets = [frame_type.to_u8(), header.destination, header.source];
-    print::letters(b"F");
-    answers::print_octets(&octets);
-    print::digits(header.data_length as usize, 4);
-    print::digits(header.header_crc as usize, 2);
+    print::letters(to, b"F");
+    answers::print_octets(to, &octets);
+    print::digits(to, header.data_length as usize, 4);
+    print::digits(to, header.header_crc as usize, 2);
     match data_crc {
-        DataCrc::Present(check) => print::number(check as usize, 4),
-        DataCrc::Absent => print::letters(b" none"),
+        DataCrc::Present(check) => print::number(to, check as usize, 4),
+        DataCrc::Absent => print::letters(to, b" none"),
     }
 }
 

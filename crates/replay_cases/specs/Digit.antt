@@ -1,7 +1,7 @@
 -- Hexadecimal digits, lower case.
 -- Assumes nothing.
-use Rattle.std.specs.Prelude.{ℕ, ◌+◌, ◌*◌, ◌%◌, List, [], ◌∷◌}
-use Rattle.bytes.specs.Bytes.{index_of}
+use Rattle.std.specs.Prelude.{ℕ, ◌+◌, ◌*◌, ◌%◌, ◌==◌, List, [], ◌∷◌}
+use Rattle.std.specs.List.{position_or_len}
 
 -- the digits, 0 to 9 and a to f
 abbrev pub digits : List ℕ
@@ -11,7 +11,7 @@ digits =
 
 -- the value of a digit, its place among them; 0 for any other octet
 abbrev pub digit_of : ℕ → ℕ
-digit_of c = index_of c digits % 16
+digit_of c = position_or_len (λ d. d == c) digits % 16
 
 -- the octet that two digits spell
 abbrev pub octet_of : ℕ → ℕ → ℕ

@@ -1,72 +1,74 @@
-// Standard output, in lower case hexadecimal digits. No contract can say what was printed: these functions have none.
-use libc::STDOUT_FILENO;
+// What an answer is printed on, in lower case hexadecimal digits. No contract can say what was printed: these functions have
+// none.
 use octets::CountResult;
 
 // Prints letters.
-pub fn letters(letters: &[u8]) {
-    io::write_all(STDOUT_FILENO, letters);
+pub fn letters<P: Print>(to: &P, letters: &[u8]) {
+    let _ = to.write_all(letters);
 }
 
 // Prints a number of at least that many digits.
-pub fn digits(value: usize, least: usize) {
-    io::print_hex(STDOUT_FILENO, value as u64, least);
+pub fn digits<P: Print>(to: &P, value: usize, least: usize) {
+    let mut text = [0u8; 16];
+    let n = io::hex(value as u64, least, &mut text);
+    letters(to, &text[..n]);
 }
 
 // Prints a space and a number of at least that many digits.
-pub fn number(value: usize, least: usize) {
-    letters(b" ");
-    digits(value, least);
+pub fn number<P: Print>(to: &P, value: usize, least: usize) {
+    letters(to, b" ");
+    digits(to, value, least);
 }
 
 // Prints letters, a space and a number of at least that many digits.
-pub fn labelled(label: &[u8], value: usize, least: usize) {
-    letters(label);
-    number(value, least);
+pub fn labelled<P: Print>(to: &P, label: &[u8], value: usize, least: usize) {
+    letters(to, label);
+    number(to, value, least);
 }
 
 // Prints a refusal: E and the question.
-pub fn refusal(question: u8) {
-    labelled(b"E", question as usize, 2);
+pub fn refusal<P: Print>(to: &P, question: u8) {
+    labelled(to, b"E", question as usize, 2);
 }
 
 // Prints a count behind its label, or the refusal.
-pub fn count(label: &[u8], res: CountResult) {
+pub fn count<P: Print>(to: &P, label: &[u8], res: CountResult) {
     match res {
-        CountResult::Count(count) => labelled(label, count, 4),
-        CountResult::Refused(question) => refusal(question),
+        CountResult::Count(count) => labelled(to, label, count, 4),
+        CountResult::Refused(question) => refusal(to, question),
     }
 }
 
 // Prints an octet.
-fn octet(octet: u8) {
-    digits(octet as usize, 2);
+fn octet<P: Print>(to: &P, octet: u8) {
+    digits(to, octet as usize, 2);
 }
 
 // Prints octets, the first of them where there are more than `most`.
-pub fn octets(octets: &[u8], most: usize) {
+pub fn octets<P: Print>(to: &P, octets: &[u8], most: usize) {
     let mut i = 0;
     while i < octets.len() {
         if i == most {
             return;
         }
-        octet(octets[i]);
+        octet(to, octets[i]);
         i += 1;
     }
 }
 
 // Prints a number of a list.
-fn entry(value: u32, least: usize) {
-    number(value as usize, least);
+fn entry<P: Print>(to: &P, value: u32, least: usize) {
+    number(to, value as usize, least);
 }
 
 // Prints the numbers of a list, the first of them where there are more than `most`, each of at least that many digits.
-pub fn list(list: &[u32], most: usize, least: usize) {
+pub fn list<P: Print>(to: &P, list: &[u32], most: usize, least: usize) {
     let mut i = 0;
     while i < list.len() {
         if i == most {
             return;
         }
-        entry(list[i], least);
+        entry(to, list[i], least);
         i += 1;
     }
 }

@@ -5,22 +5,26 @@ ghost use Rattle.io.specs.Counts.{IsPrefixLen};
 use crate::answers;
 use log_record::RecordTime;
 use replay_cases::{input, print};
+use std::io::Read;
 
 // Answers the call whose letter was read.
-pub(crate) fn answer(letter: u8, buffer: &mut [u8]) {
-    answer_to(letter, buffer);
-    input::letter();
-    print::letters(b"\n");
+pub(crate) fn answer<R: Read, P: Print>(from: &mut R, to: &P, letter: u8, buffer: &mut [u8]) {
+    answer_to(from, to, letter, buffer);
+    input::letter(from);
+    print::letters(to, b"\n");
 }
 
 // Answers a call by its letter.
-fn answer_to(letter: u8, buffer: &mut [u8]) {
+fn answer_to<R: Read, P: Print>(from: &mut R, to: &P, letter: u8, buffer: &mut [u8]) {
     match letter {
-        b'A' => append(buffer),
-        b'R' => read(buffer, input::long_number()),
-        b'C' => answers::print_counted(log_reading::count_records(buffer, input::long_number())),
-        b'B' => print::octets(buffer, buffer.len()),
-        _ => print::letters(b"no call"),
+        b'A' => append(from, to, buffer),
+        b'R' => read(to, buffer, input::long_number(from)),
+        b'C' => answers::print_counted(
+            to,
+            log_reading::count_records(buffer, input::long_number(from)),
+        ),
+        b'B' => print::octets(to, buffer, buffer.len()),
+        _ => print::letters(to, b"no call"),
     }
 }
 
@@ -33,11 +37,11 @@ fn space() -> [u8; 1520]
 
 // Reads a count and a first octet, puts so many octets counting up from it, 00 behind FF, at the front of `out`, as far
 // as there is room, and answers how many there are.
-fn payload(out: &mut [u8]) -> usize
+fn payload<R: Read>(from: &mut R, out: &mut [u8]) -> usize
     ensures { IsPrefixLen result out.new }
 {
-    let count = input::number();
-    let first = input::octet();
+    let count = input::number(from);
+    let first = input::octet(from);
     let mut n = 0;
     while n < out.len() {
         if n == count {
@@ -50,29 +54,31 @@ fn payload(out: &mut [u8]) -> usize
 }
 
 // Reads a time: a second behind the letter T, or another letter, which is no time.
-fn time() -> RecordTime {
-    if input::letter() == b'T' {
-        return RecordTime::Second(input::long_number() as u32);
+fn time<R: Read>(from: &mut R) -> RecordTime {
+    if input::letter(from) == b'T' {
+        return RecordTime::Second(input::long_number(from) as u32);
     }
     RecordTime::None
 }
 
 // Appends a record.
-fn append(buffer: &mut [u8]) {
-    let used = input::long_number();
-    let kind = input::octet();
-    let time = time();
+fn append<R: Read, P: Print>(from: &mut R, to: &P, buffer: &mut [u8]) {
+    let used = input::long_number(from);
+    let kind = input::octet(from);
+    let time = time(from);
     let mut octets = space();
-    let n = payload(&mut octets);
+    let n = payload(from, &mut octets);
     print::count(
+        to,
         b"U",
         log_append::append(buffer, used, kind, time, &octets[..n]),
     );
 }
 
 // Reads the record that ends at an end, and its payload.
-fn read(log: &[u8], end: usize) {
+fn read<P: Print>(to: &P, log: &[u8], end: usize) {
     answers::print_read(
+        to,
         log_record::read_record(log, end),
         log_record::record_payload(log, end),
     );

@@ -16,14 +16,15 @@ fn space() -> [u8; 4096]
     [0xA5; 4096]
 }
 
-fn main() {
+fn main(rt: HostRuntime) {
+    let mut stdin = rt.stdin();
     let mut octets = space();
     let buffer: &mut [u8] = &mut octets;
     for _ in 0..replay_cases::MOST_CASES {
-        let letter = input::letter();
+        let letter = input::letter(&mut stdin);
         if letter == 0 {
             return;
         }
-        calls::answer(letter, buffer);
+        calls::answer(&mut stdin, &rt, letter, buffer);
     }
 }

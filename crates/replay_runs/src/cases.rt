@@ -5,6 +5,7 @@ use crate::{answers, pieces};
 use crc::CheckRule;
 use replay_cases::{input, print, spelling};
 use run_search::FrameFound;
+use std::io::Read;
 
 // What stands in the lent list before the call, and how many numbers behind it are looked at too.
 const BEFORE: u32 = 0xA5A5A5A5;
@@ -22,23 +23,23 @@ fn run_space() -> [u8; 65600]
 }
 
 // Answers a case of that kind: a letter for the rule, a long number, and then the run.
-pub(crate) fn answer(kind: u8) {
-    let rule = spelling::rule_of(input::letter());
-    let number = input::long_number();
+pub(crate) fn answer<R: Read, P: Print>(from: &mut R, to: &P, kind: u8) {
+    let rule = spelling::rule_of(input::letter(from));
+    let number = input::long_number(from);
     let mut octets = run_space();
-    let n = pieces::run(&mut octets);
-    input::letter();
-    answer_to(kind, rule, &octets[..n], number);
-    print::letters(b"\n");
+    let n = pieces::run(from, &mut octets);
+    input::letter(from);
+    answer_to(to, kind, rule, &octets[..n], number);
+    print::letters(to, b"\n");
 }
 
 // Answers a case by its kind.
-fn answer_to(kind: u8, rule: CheckRule, run: &[u8], number: usize) {
+fn answer_to<P: Print>(to: &P, kind: u8, rule: CheckRule, run: &[u8], number: usize) {
     match kind {
-        b'F' => answers::print_found(run_finder::find_frame(rule, run, number)),
-        b'N' => steps(rule, run, number),
-        b'R' => whole(rule, run, number),
-        _ => print::letters(b"no kind"),
+        b'F' => answers::print_found(to, run_finder::find_frame(rule, run, number)),
+        b'N' => steps(to, rule, run, number),
+        b'R' => whole(to, rule, run, number),
+        _ => print::letters(to, b"no kind"),
     }
 }
 
@@ -52,18 +53,18 @@ fn is_report(found: FrameFound) -> bool {
 }
 
 // The reader's steps from a place, until one is no report; then the place where it stands.
-fn steps(rule: CheckRule, run: &[u8], place: usize) {
+fn steps<P: Print>(to: &P, rule: CheckRule, run: &[u8], place: usize) {
     let mut at = place;
     for _ in 0..MOST_STEPS {
         let step = run_reader::step_at(rule, run, at);
         let found = step.found;
         at = step.next;
-        answers::print_found(found);
+        answers::print_found(to, found);
         if !is_report(found) {
-            print::number(at, 4);
+            print::number(to, at, 4);
             return;
         }
-        print::letters(b" ");
+        print::letters(to, b" ");
     }
 }
 
@@ -75,22 +76,23 @@ fn list_space() -> [u32; 16400]
 }
 
 // The whole reading, counted and into a list of that size, then the list.
-fn whole(rule: CheckRule, run: &[u8], size: usize) {
+fn whole<P: Print>(to: &P, rule: CheckRule, run: &[u8], size: usize) {
     if 16384 < size {
         return;
     }
     let mut list = list_space();
-    print::count(b"F", run_reading::count_frames(rule, run));
-    print::letters(b" ");
-    fill(rule, run, &mut list, size);
-    print::list(&list, size + BEHIND, 4);
+    print::count(to, b"F", run_reading::count_frames(rule, run));
+    print::letters(to, b" ");
+    fill(to, rule, run, &mut list, size);
+    print::list(to, &list, size + BEHIND, 4);
 }
 
 // The whole reading into the front of a list.
-fn fill(rule: CheckRule, run: &[u8], list: &mut [u32], size: usize)
+fn fill<P: Print>(to: &P, rule: CheckRule, run: &[u8], list: &mut [u32], size: usize)
     requires { size ≤ length list.old }
 {
     print::count(
+        to,
         b"F",
         run_reading::read_frames(rule, run, &mut list[0..size]),
     );

@@ -8,12 +8,13 @@ mod pieces;
 
 use replay_cases::input;
 
-fn main() {
+fn main(rt: HostRuntime) {
+    let mut stdin = rt.stdin();
     for _ in 0..replay_cases::MOST_CASES {
-        let kind = input::letter();
+        let kind = input::letter(&mut stdin);
         if kind == 0 {
             return;
         }
-        cases::answer(kind);
+        cases::answer(&mut stdin, &rt, kind);
     }
 }

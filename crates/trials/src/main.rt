@@ -5,7 +5,7 @@
 ghost use Rattle.std.specs.Prelude.{◌≡◌, length};
 ghost use Rattle.trials.specs.Trials.{table, Trials};
 
-use libc::STDOUT_FILENO;
+use std::io;
 
 // How many rows the table has. Each of them holds.
 fn rows() -> u64
@@ -16,7 +16,6 @@ fn rows() -> u64
 }
 
 // Prints that number.
-fn main() {
-    io::print_decimal(STDOUT_FILENO, rows());
-    io::write_all(STDOUT_FILENO, b" rows\n");
+fn main(rt: HostRuntime) -> io::Result<()> {
+    println!(rt; "{} rows", rows())
 }
