@@ -1,7 +1,7 @@
 -- An answer told to a caller in another language: a number, which is 0 where there is a result, and lent memory, which holds
 -- the result, or what it held before.
 -- Assumes nothing.
-use Rattle.std.specs.Prelude.{ℕ, List, [], ◌∷◌}
+use Rattle.std.specs.Prelude.{ℕ, List}
 use Rattle.octets.specs.Answer.{count_number, count_or, if_counted, accept_number, if_accepted}
 use Rattle.mstp_decode.specs.declared.MstpDecoded.{MstpDecoded}
 use Rattle.mstp_decode.specs.declared.MstpDecoded.TheVariants as M

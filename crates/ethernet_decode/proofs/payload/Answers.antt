@@ -11,7 +11,7 @@ use Rattle.ethernet_decode.proofs.payload.Goals as goal
 
 -- past the test the octets are accepted
 past : (c : goal.After-payload_length-end) → Accepted c.args.form c.args.frame.now
-past c = passed _ _ c.decode_question.ensures c.if-decode_question-ne0.false
+past c = passed _ _ c.decode_question.ensures (omega arith)
 
 pub returns-then-decode_question-ne0 : goal.returns-then-decode_question-ne0
 returns-then-decode_question-ne0 c =

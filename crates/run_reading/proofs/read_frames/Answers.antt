@@ -22,8 +22,8 @@ room c =
     let a = c.args in
     let few = leb-true (length a.run.now) 65535 (sym c.at_most_65535.ensures ∙ c.if-not-at_most_65535.false) in
     elim c.if-out-run.branch [
-      then-out-run+else-out-count_reports w ↦ omega arith
-    | else-out-run w ↦ omega (arith, few_reports a.rule a.run.now few (λ i. (c.type_inv.run i).fits))
+      | then-out-run+else-out-count_reports w ↦ omega arith
+      | else-out-run w ↦ omega (arith, few_reports a.rule a.run.now few (λ i. (c.type_inv.run i).fits))
     ]
 
 pub returns-then-not-at_most_65535 : goal.returns-then-not-at_most_65535

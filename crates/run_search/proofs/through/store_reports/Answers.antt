@@ -31,10 +31,10 @@ loop-p-preserved c =
     let past = c.loop-p.invariant in
     let taken = c.loop-p-test.true in
     elim c.if-n-out.branch [
-      then-n-out w ↦
-      past_stored past taken c.size_at-size.ensures c.next_frame-p-in-loop-p.ensures (omega (arith, same past)) (omega arith)
-      (w.out-is ∙ w.store.ensures)
-    | else-n-out w ↦ past_full past taken c.size_at-size.ensures c.next_frame-p-in-loop-p.ensures (omega (arith, same past)) w.out-is
+      | then-n-out w ↦
+          past_stored past taken c.size_at-size.ensures c.next_frame-p-in-loop-p.ensures (omega (arith, same past)) (omega arith)
+          (w.out-is ∙ w.store.ensures)
+      | else-n-out w ↦ past_full past taken c.size_at-size.ensures c.next_frame-p-in-loop-p.ensures (omega (arith, same past)) w.out-is
     ]
 
 pub shape_of-out : goal.shape_of-out
