@@ -64,9 +64,9 @@ fn read_piece<R: Read>(from: &mut R, piece: usize, out: &mut [u8]) -> ReadAnswer
     read_answer(got)
 }
 
-// Reads from a descriptor to the front of `out` until the input ends, `out` is full or a read fails, and says which. Each
-// read asks for at most `piece` octets, where 0 counts as 1. Which octets come, and when a read fails or says that the
-// input has ended, no contract can say.
+// Reads to the front of `out` until the input ends, `out` is full or a read fails, and says which. Each read asks for at
+// most `piece` octets, where 0 counts as 1. Which octets come, and when a read fails or says that the input has ended, no
+// contract can say.
 pub fn read_to_end<R: Read>(from: &mut R, piece: usize, out: &mut [u8]) -> InputRead
     ensures { Reads result (length out.new) }
 {

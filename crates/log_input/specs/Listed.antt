@@ -1,4 +1,4 @@
--- What holds of what came of listing a descriptor, whatever came.
+-- What holds of what came of listing a log that was read, whatever came.
 -- Assumes nothing.
 use Rattle.std.specs.Prelude.{ℕ, ◌≡◌, List, length, take}
 use Rattle.input.specs.Room.{Reads}

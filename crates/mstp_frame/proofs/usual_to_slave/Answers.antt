@@ -2,6 +2,7 @@
 -- Assumes nothing.
 use mathlib.Core.Path.{◌≡◌, refl}
 use mathlib.Core.Bool.{true}
+use native.Mathlib.Omega.{arith}
 use borrow.Author.Tests.{ne_eqb}
 use Rattle.crc.specs.declared.CheckRule.{CheckRule}
 use Rattle.crc.specs.declared.CheckRule.TheVariants.{AnnexG, House}
@@ -18,8 +19,8 @@ returns-then-frame_type-eq3 c = rw c.if-frame_type-eq3.true (usual-3 _)
 
 pub returns-in-AnnexG : goal.returns-in-AnnexG
 unfolding usual_to_slave
-returns-in-AnnexG c = rw (c.in-AnnexG.is, ne_eqb _ 3 c.if-frame_type-eq3.false) c.within.ensures
+returns-in-AnnexG c = rw (c.in-AnnexG.is, ne_eqb c.args.frame_type 3 (λ z. omega arith)) c.within.ensures
 
 pub returns-in-House : goal.returns-in-House
 unfolding usual_to_slave
-returns-in-House c = rw (c.in-House.is, ne_eqb _ 3 c.if-frame_type-eq3.false)
+returns-in-House c = rw (c.in-House.is, ne_eqb c.args.frame_type 3 (λ z. omega arith))
