@@ -41,8 +41,8 @@ build() {
 # were proved and built before are not told again. Its status is the build's, which goes on where nobody reads.
 progress() {
     trap '' PIPE
-    crate='' count=0 status=1 total=$(printf '%s\n' "$crates" | grep -c .) format='%s: %s of at most %s crates are proved: %s\n'
-    [ ! -t 2 ] || format='\r%s: %s of at most %s crates are proved: %-20s'
+    crate='' count=0 status=1 total=$(printf '%s\n' "$crates" | grep -c .) format='%s: crate %s of at most %s is proved: %s\n'
+    [ ! -t 2 ] || format='\r%s: crate %s of at most %s is proved: %-20s'
     while IFS= read -r line; do
         printf '%s\n' "$line"
         case $line in
