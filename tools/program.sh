@@ -5,51 +5,53 @@
 
 command -v rt >/dev/null || fail "the Rattle kit is not here: its command rt is not found"
 
-# The lines of crates.txt for the program and for what it stands on here, and these crates' names.
+# The lines of crates.txt for the program and for what it stands on here, and these crates' names. A line has the name
+# first, then what the crate is where that is no library or program, and after a colon what it stands on.
 lines=$(awk -v program="$name" '
     function visit(name, list, count, i) {
         if (!(name in needs) || name in seen) return
         seen[name] = 1
         count = split(needs[name], list, " ")
         for (i = 1; i <= count; i++) visit(list[i])
-        print name ":" needs[name]
+        print head[name] ":" needs[name]
     }
     { sub(/#.*/, ""); colon = index($0, ":") }
-    colon { name = substr($0, 1, colon - 1); gsub(/[ \t]/, "", name); needs[name] = substr($0, colon + 1) }
+    colon { split(substr($0, 1, colon - 1), words, " "); name = words[1] }
+    colon { head[name] = substr($0, 1, colon - 1); needs[name] = substr($0, colon + 1) }
     END { visit(program) }' "$here/crates.txt")
-crates=$(printf '%s\n' "$lines" | sed 's/:.*//')
+crates=$(printf '%s\n' "$lines" | sed 's/[ \t:].*//')
 
 # What the program is made of: these lines, and the sums of the crates' files that rt looks at.
 made_of() {
     set --
     for crate in $crates; do
-        for part in src specs proofs stdin stdout args data; do set -- "$@" "crates/$crate/$part"; done
+        for part in src specs proofs; do set -- "$@" "crates/$crate/$part"; done
     done
     printf '%s\n' "$lines"
     cd "$here" && find "$@" -type f -exec sha256sum {} + 2>/dev/null | sort
 }
 
-# Proves and builds. The last line says how it ended.
+# Proves and builds, and runs the program once, without input. The last line says how it ended.
 build() {
-    cd "$here" && rt check "$name" </dev/null 2>&1
+    cd "$here/crates/$name" && rt run </dev/null 2>&1 >/dev/null
     printf '%s: rt ended with status %s\n' "$name" $?
 }
 
-# Passes on what the build says, and says on standard error which crate is proved: on a terminal in one line. Its status is
-# the build's, which goes on where nobody reads.
+# Passes on what the build says, and says on standard error which crate is proved: on a terminal in one line. Crates that
+# were proved and built before are not told again. Its status is the build's, which goes on where nobody reads.
 progress() {
     trap '' PIPE
-    count=0 status=1 total=$(printf '%s\n' "$crates" | grep -c .) format='%s: crate %s of %s is proved: %s\n'
-    [ ! -t 2 ] || format='\r%s: crate %s of %s is proved: %-20s'
+    crate='' count=0 status=1 total=$(printf '%s\n' "$crates" | grep -c .) format='%s: crate %s of at most %s is proved: %s\n'
+    [ ! -t 2 ] || format='\r%s: crate %s of at most %s is proved: %-20s'
     while IFS= read -r line; do
         printf '%s\n' "$line"
         case $line in
         "$name: rt ended with status "*) status=${line##* } ;;
-        'rt: '*' proved ('*)
-            crate=${line#rt: }
+        'crate '*': modules '*) crate=${line#crate } ;;
+        'logic=proved '*)
             count=$((count + 1))
             # shellcheck disable=SC2059
-            printf "$format" "$name" "$count" "$total" "${crate%% *}" >&2
+            printf "$format" "$name" "$count" "$total" "${crate%%:*}" >&2
             ;;
         esac
     done
@@ -58,14 +60,15 @@ progress() {
 }
 
 # `proved` has the sum of what was last proved and built: a check that failed leaves none.
-program=$here/target/bin/$name proved=$here/target/$name.proved lock=$here/target/$name.lock log=$here/target/$name.log
+program=$here/crates/$name/out/$name
+proved=$here/target/$name.proved lock=$here/target/$name.lock log=$here/target/$name.log
 sum=$(made_of | sha256sum) || exit 1
 if [ ! -x "$program" ] || [ "$(cat "$proved" 2>/dev/null)" != "$sum" ]; then
     mkdir -p "$here/target" || exit 1
     mkdir "$lock" 2>/dev/null || fail "the program is being built: wait, or remove $lock if nothing builds it"
     trap 'rmdir "$lock"' EXIT
     trap 'exit 1' HUP INT TERM
-    # Two rt at a time would write the same files in target/.
+    # The second of two rt would wait for the first, and say so only in the log.
     for other in "$here"/target/*.lock; do
         [ "$other" = "$lock" ] || [ ! -d "$other" ] ||
             fail "another program is being built: wait, or remove $other if nothing builds it"
@@ -77,14 +80,9 @@ if [ ! -x "$program" ] || [ "$(cat "$proved" 2>/dev/null)" != "$sum" ]; then
     printf '%s\n' "$sum" >"$proved"
 fi
 
-# Runs the program, as the gate does: with the kit's C library, and on another processor under the kit's emulator.
+# Runs the program, as rt run does.
 run_program() {
-    kit=$(rt doc </dev/null) || fail "rt does not say where the kit is"
-    tools=${kit%/docs/*}/on/$(uname -m)/toolchain
-    emulator=$tools/bin/qemu-x86_64
-    [ -x "$emulator" ] || emulator=''
-    ${emulator:+"$emulator"} "$tools/lib/ld-linux-x86-64.so.2" --library-path "$tools/lib" "$program" ||
-        fail "the program ended with status $?"
+    "$program" || fail "the program ended with status $?"
 }
 
 # print_text TEXT: prints it, with the newline at its end that the shell took away.

@@ -1,4 +1,4 @@
-/* The functions of liblefkanu.a (rt staticlib lefkanu), for x86-64.
+/* The functions of liblefkanu.a (rt lib in crates/lefkanu), for x86-64.
 
    Slices: a pointer, then how many numbers it points to. No pointer is null, also where there are none; memory that is
    written to overlaps no other; nobody else writes to any of it meanwhile. A pointer with a size in brackets points to

@@ -1,4 +1,4 @@
-//! Finds liblefkanu.a: in the folder that LEFKANU_LIB names, or built by `rt staticlib lefkanu` in this repository.
+//! Finds liblefkanu.a: in the folder that LEFKANU_LIB names, or built by `rt lib` in this repository's crates/lefkanu.
 
 use std::env;
 use std::fs;
@@ -41,8 +41,8 @@ fn named(folder: PathBuf) -> PathBuf {
     folder
 }
 
-/// A folder of cargo's with the archive that `rt staticlib lefkanu` writes to the repository's target/staticlib. It is a
-/// copy, since `rt ci` removes target/, and so that the archive's own age does not make cargo build it each time.
+/// A folder of cargo's with the archive that `rt lib` writes to the repository's crates/lefkanu/out. It is a copy, since
+/// `rt ci` sets out/ aside while it runs, and so that the archive's own age does not make cargo build it each time.
 fn built() -> PathBuf {
     let here = folder("CARGO_MANIFEST_DIR");
     let root = match fs::canonicalize(here.join("../..")) {
@@ -51,11 +51,12 @@ fn built() -> PathBuf {
             "this crate is not in its repository, two folders below crates.txt: put it back, or {HINT}"
         )),
     };
-    for sources in ["crates.txt", "crates"] {
-        println!("cargo:rerun-if-changed={}", root.join(sources).display());
+    for source in sources(&root) {
+        println!("cargo:rerun-if-changed={}", source.display());
     }
-    build(&root);
-    let archive = root.join("target/staticlib").join(ARCHIVE);
+    let lefkanu = root.join("crates/lefkanu");
+    build(&lefkanu);
+    let archive = lefkanu.join("out").join(ARCHIVE);
     let out = folder("OUT_DIR");
     match fs::copy(&archive, out.join(ARCHIVE)) {
         Ok(_) => out,
@@ -63,18 +64,33 @@ fn built() -> PathBuf {
     }
 }
 
-/// Runs `rt staticlib lefkanu` in the repository.
-fn build(root: &Path) {
+/// crates.txt, and the folders that `rt` reads of each crate. What it makes is in out/ beside these.
+fn sources(root: &Path) -> Vec<PathBuf> {
+    let crates = root.join("crates");
+    let entries = match fs::read_dir(&crates) {
+        Ok(entries) => entries,
+        Err(error) => fail(&format!("{} can't be read: {error}", crates.display())),
+    };
+    let mut sources = vec![root.join("crates.txt")];
+    for entry in entries.flatten() {
+        let parts = ["src", "specs", "proofs"].map(|part| entry.path().join(part));
+        sources.extend(parts.into_iter().filter(|part| part.is_dir()));
+    }
+    sources
+}
+
+/// Runs `rt lib` in the folder of the crate.
+fn build(folder: &Path) {
     let ended = Command::new("rt")
-        .args(["staticlib", "lefkanu"])
-        .current_dir(root)
+        .arg("lib")
+        .current_dir(folder)
         .stdin(Stdio::null())
         .status();
     match ended {
         Ok(status) if status.success() => {}
         Ok(status) => fail(&format!(
-            "rt staticlib lefkanu in {} ended with {status}",
-            root.display()
+            "rt lib in {} ended with {status}",
+            folder.display()
         )),
         Err(error) if error.kind() == io::ErrorKind::NotFound => fail(&format!(
             "the Rattle kit is not here: its command rt is not found. Put it on the path, or {HINT}"

@@ -1,7 +1,5 @@
-"""The program buslog, as ./buslog runs it: with the kit's C library, and on another processor under its emulator."""
+"""The program buslog, as ./buslog runs it."""
 
-import os
-import pathlib
 import subprocess
 
 
@@ -10,12 +8,7 @@ class Program:
 
     def __init__(self, root):
         subprocess.run([root / "buslog", root / "samples/dryer.log"], stdout=subprocess.DEVNULL, check=True)
-        guide = subprocess.run(["rt", "doc"], capture_output=True, text=True, check=True).stdout.strip()
-        tools = pathlib.Path(guide).parents[1] / "on" / os.uname().machine / "toolchain"
-        emulator = tools / "bin/qemu-x86_64"
-        self.command = [emulator] if emulator.exists() else []
-        loader = tools / "lib/ld-linux-x86-64.so.2"
-        self.command += [loader, "--library-path", tools / "lib", root / "target/bin/buslog"]
+        self.command = [root / "crates/buslog/out/buslog"]
 
     def text(self, log):
         """The lines that it prints of a log; what else it says, and a status above 0, are lines as well."""
