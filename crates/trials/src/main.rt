@@ -5,8 +5,6 @@
 ghost use Rattle.std.specs.Prelude.{◌≡◌, length};
 ghost use Rattle.trials.specs.Trials.{table, Trials};
 
-use std::io;
-
 // How many rows the table has. Each of them holds.
 fn rows() -> u64
     ensures value { result ≡ length table }
@@ -16,6 +14,6 @@ fn rows() -> u64
 }
 
 // Prints that number.
-fn main(rt: HostRuntime) -> io::Result<()> {
-    println!(rt; "{} rows", rows())
+fn main(rt: HostRuntime) {
+    let _ = println!(rt; "{} rows", rows());
 }
