@@ -1,59 +1,46 @@
 -- What the analysis answers: the patterns' questions decide for all three.
 -- Assumes nothing.
-use mathlib.Core.Path.{◌≡◌, sym, ◌∙◌}
+use mathlib.Core.Path.{◌≡◌, sym}
 use mathlib.Core.List.{List, []}
 use Prim.Native.Nat.{ℕ}
-use native.Mathlib.Omega.{arith}
 use lib.ListN.{length}
-use Rattle.octets.proofs.Questions.{passed, ended, all_yes, answered_value, answered_refused, is_value, is_refusal}
+use Rattle.std.specs.Prelude.{Result, Ok, Err}
+use Rattle.octets.specs.declared.refusal.Refusal.{Refusal}
+use Rattle.octets.proofs.Questions.{passed, ended, all_yes}
+use Rattle.octets.proofs.Refusals.{accepts, none_failed, one_failed, handed_on}
 use Rattle.crc.specs.declared.CheckRule.{CheckRule}
-use Rattle.findings.specs.declared.ValidationResult.{ValidationResult}
-use Rattle.findings.specs.Result.{no_result}
-use Rattle.validation.specs.Frame.{frame_result}
 use Rattle.statistics.specs.declared.FrameStatistics.{FrameStatistics}
-use Rattle.statistics.specs.declared.StatisticsAnswer.{StatisticsAnswer}
-use Rattle.statistics.specs.Statistics.{frame_statistics, no_statistics, calculated, statistics_question, statistics}
-use Rattle.statistics.specs.Statistics.{refused as noneCalculated}
-use Rattle.statistics.specs.Laws.{Calculates}
-use Rattle.octets.specs.declared.CountResult.{CountResult}
-use Rattle.octets.specs.declared.CountResult.TheVariants.{Count, Refused}
+use Rattle.statistics.specs.Statistics.{frame_statistics, statistics_question, statistics}
 use Rattle.patterns.specs.Entries.{entries}
 use Rattle.patterns.specs.Detect.{patterns_questions, patterns_question, patterns_answer}
-use Rattle.analysis.specs.Analysis.{analyzed, refused, analysis}
+use Rattle.analysis.specs.Analysis.{analyzed, analysis}
 
-module _ (s out : List ℕ) {detected : CountResult} (answer : detected ≡ patterns_answer s out) where
-  -- where the patterns' questions pass, that of the statistics does
-  calculates : patterns_question s out ≡ 0 → statistics s ≡ calculated (frame_statistics s)
-  unfolding patterns_question patterns_questions statistics statistics_question
-  calculates none =
-      let yes = all_yes (patterns_questions s out) tt none in
-      answered_value noneCalculated (calculated (frame_statistics s)) (sym (passed 31 [] yes.0 ended))
+module _ (s out : List ℕ) {detected : Result ℕ Refusal} (answer : detected ≡ patterns_answer s out) where
+  -- where the patterns refuse, the analysis does
+  pub none_detected : (rule : CheckRule) {e : Refusal} → detected ≡ Err e → Err e ≡ analysis rule s out
+  unfolding patterns_answer analysis
+  none_detected rule err = handed_on (length (entries s)) (patterns_question s out) answer (analyzed rule s) err
 
-  -- where they count, the questions pass, and the count is that of the entries
-  entries_counted : {n : ℕ} → detected ≡ Count n → (patterns_question s out ≡ 0) × (Count (length (entries s)) ≡ Count n)
+  -- where they count, the count is that of the entries, and none of their questions failed
+  detects : {n : ℕ} → detected ≡ Ok n → (patterns_question s out ≡ 0) × (n ≡ length (entries s))
   unfolding patterns_answer
-  entries_counted counts =
-      is_value Refused (Count (length (entries s))) (patterns_question s out) (sym answer ∙ counts)
-      (λ k e. let z : ◌≡◌ {A = ℕ} 0 1 = cc in omega arith)
+  detects ok = none_failed (length (entries s)) (patterns_question s out) answer ok
 
-  pub all_three : (rule : CheckRule) {n : ℕ} {v : ValidationResult} {t : StatisticsAnswer}
-      → detected ≡ Count n → v ≡ frame_result rule s → t ≡ statistics s
-      → record { patterns = Count n; validation = v; statistics = t.statistics } ≡ analysis rule s out
-  unfolding analysis
-  all_three rule {n} {v} {t} counts is-v is-t =
-      let is = entries_counted counts in
-      rw (← is.1, is-v, is-t ∙ calculates is.0) (sym (answered_value refused (analyzed rule s) is.0))
+  module _ {n : ℕ} (ok : detected ≡ Ok n) where
+    -- that of the statistics is among them
+    asked : statistics_question s ≡ 0
+    unfolding patterns_question patterns_questions statistics_question
+    asked = let yes = all_yes (patterns_questions s out) tt (detects ok).0 in sym (passed 31 [] yes.0 ended)
 
-  -- what holds of calculated statistics holds of those of the analysis
-  pub holds_here : (P : FrameStatistics → Type 0) {n : ℕ} {t : StatisticsAnswer} → detected ≡ Count n → t ≡ statistics s
-      → Calculates P t → P t.statistics
-  holds_here P counts is-t holds = let e = is-t ∙ calculates (entries_counted counts).0 in rw e (rw e at holds)
+    -- so the statistics do not refuse
+    pub not_refused : {r : Result FrameStatistics Refusal} {e : Refusal} → r ≡ statistics s → r ≡ Err e → ⊥
+    unfolding statistics
+    not_refused is err = (one_failed (frame_statistics s) (statistics_question s) is err).0 asked
 
-  pub none_of_them : (rule : CheckRule) {q : ℕ} {v : ValidationResult} {t : FrameStatistics} → detected ≡ Refused q → v ≡ no_result → t ≡ no_statistics
-      → record { patterns = Refused q; validation = v; statistics = t } ≡ analysis rule s out
-  unfolding analysis patterns_answer
-  none_of_them rule {q} refuses is-v is-t =
-      let is = is_refusal Refused (Count (length (entries s))) (patterns_question s out) (sym answer ∙ refuses)
-      (λ e. let z : ◌≡◌ {A = ℕ} 0 1 = cc in omega arith) in
-      let same : patterns_question s out ≡ q = let e = is.1 in cc in
-      rw (is-v, is-t, ← same) (sym (answered_refused refused (analyzed rule s) (patterns_question s out) is.0))
+    pub all_three : (rule : CheckRule) {r : Result FrameStatistics Refusal} {t : FrameStatistics} → r ≡ statistics s → r ≡ Ok t
+        → (n ≡ (analyzed rule s).patterns) × ((t ≡ (analyzed rule s).statistics) × (Ok (analyzed rule s) ≡ analysis rule s out))
+    unfolding statistics analysis
+    all_three rule is calculated = (
+      (detects ok).1,
+      ((none_failed (frame_statistics s) (statistics_question s) is calculated).1, accepts (analyzed rule s) (detects ok).0),
+    )

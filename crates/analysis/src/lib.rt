@@ -8,41 +8,33 @@ ghost use Rattle.analysis.specs.Analysis.{analysis, Analyzes};
 
 use crc::CheckRule;
 use findings::ValidationResult;
-use octets::CountResult;
+use octets::Refusal;
 use statistics::FrameStatistics;
 
-// What the analysis answers: the count of entries in the lent list or the question that failed, the validation and the
-// statistics. Where it refuses, the two are zeros.
+// What the analysis answers: the count of entries in the lent list, the validation and the statistics.
 #[derive(Clone, Copy)]
 pub struct FrameAnalysis {
-    pub patterns: CountResult,
+    pub patterns: usize,
     pub validation: ValidationResult,
     pub statistics: FrameStatistics,
 }
 
 // Validates a frame, counts its octets and writes its patterns at the front of `out`, whose rest stays. The longest run is
-// that of the statistics, with its start. Or answers the first of questions 31 and 32 that fails, and writes nothing.
-pub fn analyze_frame(rule: CheckRule, frame: &[u8], out: &mut [u32]) -> FrameAnalysis
+// that of the statistics, with its start. Or refuses by the first of questions 31 and 32 that fails, and writes nothing.
+pub fn analyze_frame(
+    rule: CheckRule,
+    frame: &[u8],
+    out: &mut [u32],
+) -> Result<FrameAnalysis, Refusal>
     ensures value { result ≡ analysis rule frame.now out.old }
     ensures output { out.new ≡ patterns_output frame.now out.old }
     ensures longest { Analyzes (LongestStands frame.now) result }
 {
-    let detected = patterns::detect_patterns(frame, out);
-    match detected {
-        CountResult::Count(count) => {
-            let validation = validation::validate_frame(rule, frame);
-            let answer = statistics::calculate_frame_statistics(frame);
-            let statistics = answer.statistics;
-            FrameAnalysis {
-                patterns: CountResult::Count(count),
-                validation,
-                statistics,
-            }
-        }
-        CountResult::Refused(question) => FrameAnalysis {
-            patterns: CountResult::Refused(question),
-            validation: ValidationResult::zeros(),
-            statistics: FrameStatistics::zeros(),
-        },
-    }
+    let patterns = patterns::detect_patterns(frame, out)?;
+    let statistics = statistics::calculate_frame_statistics(frame)?;
+    Ok(FrameAnalysis {
+        patterns,
+        validation: validation::validate_frame(rule, frame),
+        statistics,
+    })
 }

@@ -1,8 +1,9 @@
 -- Numbers that name a part of the caller's octets: its place, then its octet count.
 -- Assumes nothing.
-use Rattle.std.specs.Prelude.{ℕ, ◌+◌, ◌-◌, ◌≡◌, List, [], ◌∷◌, get_or, take, drop}
+use Rattle.std.specs.Prelude.{ℕ, ◌+◌, ◌-◌, ◌≡◌, List, [], ◌∷◌, get_or, take, drop, Result, IfOk}
+use Rattle.octets.specs.declared.refusal.Refusal.{Refusal}
 use Rattle.bip_message.specs.declared.BvlcMessage.{BvlcMessage}
-use Rattle.bip_message.specs.declared.BvlcMessage.TheVariants.{Npdu, TimeToLive, NoNpdu, Refused}
+use Rattle.bip_message.specs.declared.BvlcMessage.TheVariants.{Npdu, TimeToLive, NoNpdu}
 use Rattle.bip_message.specs.Message.{npdu}
 
 -- what a BVLC message carries: 1 and an NPDU from a start to the message's size, as place and octet count
@@ -25,9 +26,12 @@ payload_numbers n = 17 ∷ n ∷ []
 abbrev pub part_named : ℕ → List ℕ → List ℕ → List ℕ
 part_named i numbers s = take (get_or numbers (i + 1) 0) (drop (get_or numbers i 0) s)
 
+-- where a message carries an NPDU, the last two of its numbers name it
+abbrev pub CarriedNamed : List ℕ → List ℕ → BvlcMessage → Type 0
+CarriedNamed numbers s (Npdu start) = part_named 1 numbers s ≡ npdu s
+CarriedNamed numbers s (TimeToLive n) = Unit {0}
+CarriedNamed numbers s NoNpdu = Unit {0}
+
 -- where a BVLC message's answer is an NPDU, the last two of its numbers name it
-abbrev pub NpduNamed : BvlcMessage → List ℕ → List ℕ → Type 0
-NpduNamed (Npdu start) numbers s = part_named 1 numbers s ≡ npdu s
-NpduNamed (TimeToLive n) numbers s = Unit {0}
-NpduNamed NoNpdu numbers s = Unit {0}
-NpduNamed (Refused q) numbers s = Unit {0}
+abbrev pub NpduNamed : Result BvlcMessage Refusal → List ℕ → List ℕ → Type 0
+NpduNamed answer numbers s = IfOk answer (CarriedNamed numbers s)

@@ -2,23 +2,21 @@
 // holds the result, and else what it held before.
 #![tactic(auto)]
 
-ghost use Rattle.std.specs.Prelude.{◌≡◌, ◌-◌};
-ghost use Rattle.octets.specs.Answer.{count_number, count_or, accept_number};
-ghost use Rattle.answers.specs.Told.{mstp_number, mstp_header, bvlc_number, bvlc_header, message_number, message_carried};
-ghost use Rattle.answers.specs.Told.{decoded_number, decoded_destination, decoded_source, decoded_payload};
-ghost use Rattle.answers.specs.Told.{statistics_number, statistics_distribution, statistics_counts};
-ghost use Rattle.answers.specs.Told.{analysis_number, analysis_count, analysis_result, analysis_distribution, analysis_counts};
-ghost use Rattle.answers.specs.Told.{found_number, found_report, record_number, record_read};
+mod told;
+
+ghost use Rattle.std.specs.Prelude.{◌≡◌};
+ghost use Rattle.octets.specs.Answer.{answer_number, made_of};
+ghost use Rattle.answers.specs.Told.{found_number, made_of_found, carried_numbers};
+ghost use Rattle.answers.specs.Told.{decoded_destination, decoded_source, decoded_payload};
+ghost use Rattle.answers.specs.Told.{statistics_distribution, statistics_counts};
+ghost use Rattle.answers.specs.Told.{analysis_count, analysis_result, analysis_distribution, analysis_counts};
 
 use analysis::FrameAnalysis;
-use bip_header::BvlcDecoded;
 use bip_message::BvlcMessage;
-use ethernet_decode::{BACNET_ETHERNET_HEADER_SIZE, EthernetDecoded};
-use log_record::RecordRead;
-use mstp_decode::MstpDecoded;
-use octets::{AcceptResult, CountResult};
-use run_search::FrameFound;
-use statistics::StatisticsAnswer;
+use ethernet_decode::{BACNET_ETHERNET_HEADER_SIZE, EthernetHeader};
+use octets::Refusal;
+use statistics::FrameStatistics;
+pub use told::Told;
 
 // "None", and "start reached".
 pub const NONE: u8 = 0xFE;
@@ -26,195 +24,130 @@ pub const NONE: u8 = 0xFE;
 // A number that names no rule, type, function, form or state.
 pub const NO_CASE: u8 = 0xFF;
 
-// How many octets stand from a place on in some of that size; behind their end 0.
-fn octets_from(start: usize, size: usize) -> usize
-    ensures { result ≡ size - start }
-{
-    if size < start {
-        return 0;
-    }
-    size - start
-}
-
-// A count: of the octets written, of entries, of reports, of the octets used.
-pub fn tell_count(answer: CountResult, count: &mut usize) -> u8
-    ensures value { result ≡ count_number answer }
-    ensures count { count.new ≡ count_or count.old answer }
+// The number of an answer: 0 where there is a value, else that of the question that failed.
+pub fn answer_number<T>(answer: &Result<T, Refusal>) -> u8
+    ensures { result ≡ answer_number answer.now }
 {
     match answer {
-        CountResult::Count(n) => {
-            *count = n;
-            0
-        }
-        CountResult::Refused(question) => question,
+        Ok(_) => 0,
+        Err(refusal) => u8::from(*refusal),
     }
 }
 
-// What reading an MS/TP frame answers.
-pub fn tell_mstp(answer: MstpDecoded, header: &mut [usize; 8]) -> u8
-    ensures value { result ≡ mstp_number answer }
-    ensures header { header.new ≡ mstp_header header.old answer }
+// A value, told as its numbers.
+pub fn tell<T: Told>(answer: Result<T, Refusal>, out: &mut T::Numbers) -> u8
+    ensures value { result ≡ answer_number answer }
+    ensures out { out.new ≡ made_of T.numbers_of out.old answer }
 {
     match answer {
-        MstpDecoded::Frame(read) => {
-            *header = numbers::header_numbers(read);
+        Ok(value) => {
+            *out = value.numbers();
             0
         }
-        MstpDecoded::Refused(question) => question,
+        Err(refusal) => u8::from(refusal),
     }
 }
 
-// What reading a BVLC header answers.
-pub fn tell_bvlc(answer: BvlcDecoded, header: &mut [usize; 2]) -> u8
-    ensures value { result ≡ bvlc_number answer }
-    ensures header { header.new ≡ bvlc_header header.old answer }
+// A value that was found, told as its numbers, or that there is none.
+pub fn tell_found<T: Told>(answer: Result<Option<T>, Refusal>, out: &mut T::Numbers) -> u8
+    ensures value { result ≡ found_number answer }
+    ensures out { out.new ≡ made_of_found T.numbers_of out.old answer }
 {
-    match answer {
-        BvlcDecoded::Header(read) => {
-            *header = numbers::bvlc_numbers(read);
-            0
-        }
-        BvlcDecoded::Refused(question) => question,
+    match answer.transpose() {
+        Some(found) => tell(found, out),
+        None => NONE,
     }
 }
 
-// What a BVLC message of a size carries.
-pub fn tell_message(answer: BvlcMessage, size: usize, carried: &mut [usize; 3]) -> u8
-    ensures value { result ≡ message_number answer }
-    ensures carried { carried.new ≡ message_carried size carried.old answer }
+// The numbers of what a BVLC message of a size carries.
+fn carried_numbers(message: BvlcMessage, size: usize) -> [usize; 3]
+    ensures { result ≡ carried_numbers size message }
 {
-    match answer {
-        BvlcMessage::Npdu(start) => {
-            *carried = [1, start, octets_from(start, size)];
-            0
-        }
-        BvlcMessage::TimeToLive(seconds) => {
-            *carried = [2, seconds as usize, 0];
-            0
-        }
-        BvlcMessage::NoNpdu => {
-            *carried = [3, 0, 0];
-            0
-        }
-        BvlcMessage::Refused(question) => question,
+    match message {
+        BvlcMessage::Npdu(start) => [1, start, size.saturating_sub(start)],
+        BvlcMessage::TimeToLive(seconds) => [2, usize::from(seconds), 0],
+        BvlcMessage::NoNpdu => [3, 0, 0],
     }
 }
 
-// Whether octets are an Ethernet frame.
-pub fn tell_accepted(answer: AcceptResult) -> u8
-    ensures { result ≡ accept_number answer }
+// What a BVLC message of a size carries. Not by `Told`: the numbers of an NPDU say its octet count, which the size gives.
+pub fn tell_message(
+    answer: Result<BvlcMessage, Refusal>,
+    size: usize,
+    carried: &mut [usize; 3],
+) -> u8
+    ensures value { result ≡ answer_number answer }
+    ensures carried { carried.new ≡ made_of (carried_numbers size) carried.old answer }
 {
-    match answer {
-        AcceptResult::Accepted => 0,
-        AcceptResult::Refused(question) => question,
+    if let Ok(message) = answer {
+        *carried = carried_numbers(message, size);
     }
+    answer_number(&answer)
 }
 
-// What reading an Ethernet frame answers.
+// What reading an Ethernet frame answers. Not by `Told`, as statistics and analysis below: C lends several places.
 pub fn tell_ethernet(
-    answer: EthernetDecoded,
+    answer: Result<EthernetHeader, Refusal>,
     dest_mac: &mut [u8; 6],
     src_mac: &mut [u8; 6],
     payload: &mut [usize; 2],
 ) -> u8
-    ensures value { result ≡ decoded_number answer }
+    ensures value { result ≡ answer_number answer }
     ensures destination { dest_mac.new ≡ decoded_destination dest_mac.old answer }
     ensures source { src_mac.new ≡ decoded_source src_mac.old answer }
     ensures payload { payload.new ≡ decoded_payload payload.old answer }
 {
-    let result = answer.result;
-    match result {
-        AcceptResult::Accepted => {
-            let destination = answer.dest_mac;
-            let source = answer.src_mac;
-            *dest_mac = destination;
-            *src_mac = source;
-            *payload = [BACNET_ETHERNET_HEADER_SIZE, answer.payload_length];
-            0
-        }
-        AcceptResult::Refused(question) => question,
+    if let Ok(header) = answer {
+        let destination = header.dest_mac;
+        let source = header.src_mac;
+        *dest_mac = destination;
+        *src_mac = source;
+        *payload = [BACNET_ETHERNET_HEADER_SIZE, header.payload_length];
     }
+    answer_number(&answer)
 }
 
 // What the statistics answer.
 pub fn tell_statistics(
-    answer: StatisticsAnswer,
+    answer: Result<FrameStatistics, Refusal>,
     distribution: &mut [u32; 256],
     counts: &mut [usize; 5],
 ) -> u8
-    ensures value { result ≡ statistics_number answer }
+    ensures value { result ≡ answer_number answer }
     ensures distribution { distribution.new ≡ statistics_distribution distribution.old answer }
     ensures counts { counts.new ≡ statistics_counts counts.old answer }
 {
-    let result = answer.result;
-    match result {
-        AcceptResult::Accepted => {
-            let statistics = answer.statistics;
-            let occurrences = statistics.byte_distribution;
-            *distribution = occurrences;
-            *counts = numbers::count_numbers(statistics);
-            0
-        }
-        AcceptResult::Refused(question) => question,
+    if let Ok(statistics) = answer {
+        let occurrences = statistics.byte_distribution;
+        *distribution = occurrences;
+        *counts = numbers::count_numbers(statistics);
     }
+    answer_number(&answer)
 }
 
 // What the analysis answers.
 pub fn tell_analysis(
-    answer: FrameAnalysis,
+    answer: Result<FrameAnalysis, Refusal>,
     validation: &mut [usize; 32],
     distribution: &mut [u32; 256],
     counts: &mut [usize; 5],
     count: &mut usize,
 ) -> u8
-    ensures value { result ≡ analysis_number answer }
+    ensures value { result ≡ answer_number answer }
     ensures validation { validation.new ≡ analysis_result validation.old answer }
     ensures distribution { distribution.new ≡ analysis_distribution distribution.old answer }
     ensures counts { counts.new ≡ analysis_counts counts.old answer }
     ensures count { count.new ≡ analysis_count count.old answer }
 {
-    let detected = answer.patterns;
-    match detected {
-        CountResult::Count(n) => {
-            let result = answer.validation;
-            let statistics = answer.statistics;
-            let occurrences = statistics.byte_distribution;
-            *validation = result_numbers::result_numbers(result);
+    match answer {
+        Ok(analysis) => {
+            let occurrences = analysis.statistics.byte_distribution;
             *distribution = occurrences;
-            *counts = numbers::count_numbers(statistics);
-            *count = n;
+            *counts = numbers::count_numbers(analysis.statistics);
+            *count = analysis.patterns;
+            *validation = result_numbers::result_numbers(analysis.validation);
             0
         }
-        CountResult::Refused(question) => question,
-    }
-}
-
-// What the finder answers.
-pub fn tell_found(answer: FrameFound, report: &mut [usize; 2]) -> u8
-    ensures value { result ≡ found_number answer }
-    ensures report { report.new ≡ found_report report.old answer }
-{
-    match answer {
-        FrameFound::Frame(found) => {
-            *report = [found.place, found.count];
-            0
-        }
-        FrameFound::None => NONE,
-        FrameFound::Refused(question) => question,
-    }
-}
-
-// What reading the log from an end answers.
-pub fn tell_record(answer: RecordRead, record: &mut [usize; 5]) -> u8
-    ensures value { result ≡ record_number answer }
-    ensures taken { «record».new ≡ record_read «record».old answer }
-{
-    match answer {
-        RecordRead::Record(read) => {
-            *record = numbers::record_numbers(read);
-            0
-        }
-        RecordRead::StartReached => NONE,
-        RecordRead::Refused(question) => question,
+        Err(refusal) => u8::from(refusal),
     }
 }

@@ -1,6 +1,9 @@
 -- The functions of BVLC messages and their numbers.
 -- Assumes nothing.
-use Rattle.std.specs.Prelude.{ℕ, ◌≡◌, cond, List, [], ◌∷◌, leb, get_or}
+use Rattle.std.specs.Prelude.{ℕ, ◌≡◌, cond, List, [], ◌∷◌, leb, get_or, Ok, IfOk}
+use Rattle.std.specs.Prelude as std
+use Rattle.octets.specs.Refusal.{refused}
+use Rattle.octets.specs.declared.refusal.Refusal.{Refusal}
 use Rattle.bip_header.specs.declared.function.BvlcFunction.{BvlcFunction}
 use Rattle.bip_header.specs.declared.function.BvlcFunction.TheVariants.{Result, WriteBroadcastDistributionTable}
 use Rattle.bip_header.specs.declared.function.BvlcFunction.TheVariants.{ReadBroadcastDistributionTable}
@@ -11,8 +14,6 @@ use Rattle.bip_header.specs.declared.function.BvlcFunction.TheVariants.{DeleteFo
 use Rattle.bip_header.specs.declared.function.BvlcFunction.TheVariants.{DistributeBroadcastToNetwork}
 use Rattle.bip_header.specs.declared.function.BvlcFunction.TheVariants.{OriginalUnicastNpdu, OriginalBroadcastNpdu}
 use Rattle.bip_header.specs.declared.function.BvlcFunction.TheVariants.{SecureBvll}
-use Rattle.bip_header.specs.declared.function.FunctionRead.{FunctionRead}
-use Rattle.bip_header.specs.declared.function.FunctionRead.TheVariants.{Known, Unknown}
 
 -- the number of each function
 abbrev pub function_number : BvlcFunction → ℕ
@@ -49,14 +50,13 @@ functions =
     ∷ []
 
 -- the function of a number from 00 to 0C; above 0C, where there is none, the last
-unfoldable pub function_of : ℕ → BvlcFunction
+abbrev pub function_of : ℕ → BvlcFunction
 function_of n = get_or functions n SecureBvll
 
--- the function that a number names, if it names one
-unfoldable pub try_from : ℕ → FunctionRead
-try_from n = cond (leb n 0x0C) (Known (function_of n)) Unknown
+-- the function that a number names; where it names none, question 13 fails
+abbrev pub try_from : ℕ → std.Result BvlcFunction Refusal
+try_from n = cond (leb n 0x0C) (Ok (function_of n)) (refused 13)
 
 -- where a number names a function, it is that function's number
-abbrev pub NumberBack : ℕ → FunctionRead → Type 0
-NumberBack n (Known f) = function_number f ≡ n
-NumberBack n Unknown = Unit {0}
+abbrev pub NumberBack : ℕ → std.Result BvlcFunction Refusal → Type 0
+NumberBack n answer = IfOk answer (λ f. function_number f ≡ n)

@@ -1,14 +1,13 @@
 -- The header of a BVLC message: its octets, reading (questions 11 to 13) and writing (question 16).
 -- Assumes nothing.
-use Rattle.std.specs.Prelude.{ℕ, List, [], ◌∷◌, leb, eqb, length, get_or}
+use Rattle.std.specs.Prelude.{ℕ, List, [], ◌∷◌, leb, eqb, length, get_or, Result}
 use Rattle.octets.specs.Number.{number, high_first}
-use Rattle.octets.specs.Question.{Question, ask, first_no, answered}
+use Rattle.octets.specs.Question.{Question, ask, first_no}
 use Rattle.octets.specs.Output.{write_answer, write_output}
-use Rattle.octets.specs.declared.CountResult.{CountResult}
+use Rattle.octets.specs.Refusal.{result_of}
+use Rattle.octets.specs.declared.refusal.Refusal.{Refusal}
 use Rattle.bip_header.specs.declared.function.BvlcFunction.{BvlcFunction}
 use Rattle.bip_header.specs.declared.BvlcHeader.{BvlcHeader}
-use Rattle.bip_header.specs.declared.BvlcDecoded.{BvlcDecoded}
-use Rattle.bip_header.specs.declared.BvlcDecoded.TheVariants.{Header, Refused}
 use Rattle.bip_header.specs.Function.{function_number, function_of}
 
 -- the octets of a header: 81, the function, the length
@@ -44,15 +43,15 @@ unfoldable pub message_length : List ℕ → ℕ
 message_length s = number (get_or s 2 0) (get_or s 3 0)
 
 -- what reading answers
-unfoldable pub decode : List ℕ → BvlcDecoded
-decode s = answered Refused (header_question s) (Header (new_header (message_function s) (message_length s)))
+unfoldable pub decode : List ℕ → Result BvlcHeader Refusal
+decode s = result_of (header_question s) (new_header (message_function s) (message_length s))
 
 -- the question of writing, or 0
 unfoldable pub encode_question : List ℕ → ℕ
 encode_question out = first_no (ask 16 (leb 4 (length out)) ∷ [])
 
 -- what writing answers: four octets, or the question
-unfoldable pub encode_answer : BvlcFunction → ℕ → List ℕ → CountResult
+unfoldable pub encode_answer : BvlcFunction → ℕ → List ℕ → Result ℕ Refusal
 encode_answer function n out = write_answer (encode_question out) (header_octets function n)
 
 -- the lent output afterwards: the header at its front, or as it was

@@ -1,87 +1,61 @@
 // The functions of BVLC messages and their numbers.
-ghost use Rattle.std.specs.Prelude.{◌≡◌};
-ghost use Rattle.bip_header.specs.Function.{function_number, function_of, try_from, NumberBack};
-
-// The largest number of a function.
-pub(crate) const LAST_FUNCTION: u8 = 0x0C;
+use octets::Refusal;
 
 // Functions, in the order of bip.rs, which is not that of their numbers.
 #[derive(Clone, Copy)]
 pub enum BvlcFunction {
-    Result,
-    WriteBroadcastDistributionTable,
-    OriginalUnicastNpdu,
-    OriginalBroadcastNpdu,
-    ForwardedNpdu,
-    RegisterForeignDevice,
-    ReadBroadcastDistributionTable,
-    ReadBroadcastDistributionTableAck,
-    ReadForeignDeviceTable,
-    ReadForeignDeviceTableAck,
-    DeleteForeignDeviceTableEntry,
-    DistributeBroadcastToNetwork,
-    SecureBvll,
+    Result = 0x00,
+    WriteBroadcastDistributionTable = 0x01,
+    OriginalUnicastNpdu = 0x0A,
+    OriginalBroadcastNpdu = 0x0B,
+    ForwardedNpdu = 0x04,
+    RegisterForeignDevice = 0x05,
+    ReadBroadcastDistributionTable = 0x02,
+    ReadBroadcastDistributionTableAck = 0x03,
+    ReadForeignDeviceTable = 0x06,
+    ReadForeignDeviceTableAck = 0x07,
+    DeleteForeignDeviceTableEntry = 0x08,
+    DistributeBroadcastToNetwork = 0x09,
+    SecureBvll = 0x0C,
 }
 
-// The function that a number names, if it names one.
-#[derive(Clone, Copy)]
-pub enum FunctionRead {
-    Known(BvlcFunction),
-    Unknown,
-}
+// The function that a number names, if it names one: the number of it is that one.
+impl TryFrom<u8> for BvlcFunction {
+    ghost use Rattle.std.specs.Prelude.{◌≡◌};
+    ghost use Rattle.bip_header.specs.Function.{try_from, NumberBack};
 
-impl BvlcFunction {
-    // The function that a number names, if it names one: `to_u8` of it is the number.
-    pub fn try_from(value: u8) -> FunctionRead
-        ensures value { result ≡ try_from value }
-        ensures back { NumberBack value result }
-    {
-        if LAST_FUNCTION < value {
-            return FunctionRead::Unknown;
-        }
-        FunctionRead::Known(function_of(value))
-    }
+    type Error = Refusal;
 
-    // The number of a function: `try_from` of it is the function.
-    pub fn to_u8(self) -> u8
-        ensures value { result ≡ function_number self }
-        ensures back { try_from result ≡ FunctionRead.Known self }
-    {
-        match self {
-            BvlcFunction::Result => 0x00,
-            BvlcFunction::WriteBroadcastDistributionTable => 0x01,
-            BvlcFunction::ReadBroadcastDistributionTable => 0x02,
-            BvlcFunction::ReadBroadcastDistributionTableAck => 0x03,
-            BvlcFunction::ForwardedNpdu => 0x04,
-            BvlcFunction::RegisterForeignDevice => 0x05,
-            BvlcFunction::ReadForeignDeviceTable => 0x06,
-            BvlcFunction::ReadForeignDeviceTableAck => 0x07,
-            BvlcFunction::DeleteForeignDeviceTableEntry => 0x08,
-            BvlcFunction::DistributeBroadcastToNetwork => 0x09,
-            BvlcFunction::OriginalUnicastNpdu => 0x0A,
-            BvlcFunction::OriginalBroadcastNpdu => 0x0B,
-            BvlcFunction::SecureBvll => 0x0C,
+    ghost try_from_gives = { λ n answer. (answer ≡ try_from n) × NumberBack n answer };
+
+    fn try_from(value: u8) -> Result<Self, Refusal> {
+        match value {
+            0x00 => Ok(BvlcFunction::Result),
+            0x01 => Ok(BvlcFunction::WriteBroadcastDistributionTable),
+            0x02 => Ok(BvlcFunction::ReadBroadcastDistributionTable),
+            0x03 => Ok(BvlcFunction::ReadBroadcastDistributionTableAck),
+            0x04 => Ok(BvlcFunction::ForwardedNpdu),
+            0x05 => Ok(BvlcFunction::RegisterForeignDevice),
+            0x06 => Ok(BvlcFunction::ReadForeignDeviceTable),
+            0x07 => Ok(BvlcFunction::ReadForeignDeviceTableAck),
+            0x08 => Ok(BvlcFunction::DeleteForeignDeviceTableEntry),
+            0x09 => Ok(BvlcFunction::DistributeBroadcastToNetwork),
+            0x0A => Ok(BvlcFunction::OriginalUnicastNpdu),
+            0x0B => Ok(BvlcFunction::OriginalBroadcastNpdu),
+            0x0C => Ok(BvlcFunction::SecureBvll),
+            _ => Err(Refusal::BvlcFunction),
         }
     }
 }
 
-// The function of a number from 00 to 0C; above 0C the last.
-pub(crate) fn function_of(value: u8) -> BvlcFunction
-    ensures { result ≡ function_of value }
-{
-    match value {
-        0x00 => BvlcFunction::Result,
-        0x01 => BvlcFunction::WriteBroadcastDistributionTable,
-        0x02 => BvlcFunction::ReadBroadcastDistributionTable,
-        0x03 => BvlcFunction::ReadBroadcastDistributionTableAck,
-        0x04 => BvlcFunction::ForwardedNpdu,
-        0x05 => BvlcFunction::RegisterForeignDevice,
-        0x06 => BvlcFunction::ReadForeignDeviceTable,
-        0x07 => BvlcFunction::ReadForeignDeviceTableAck,
-        0x08 => BvlcFunction::DeleteForeignDeviceTableEntry,
-        0x09 => BvlcFunction::DistributeBroadcastToNetwork,
-        0x0A => BvlcFunction::OriginalUnicastNpdu,
-        0x0B => BvlcFunction::OriginalBroadcastNpdu,
-        _ => BvlcFunction::SecureBvll,
+// The number of a function: it names the function.
+impl From<BvlcFunction> for u8 {
+    ghost use Rattle.std.specs.Prelude.{◌≡◌, Ok};
+    ghost use Rattle.bip_header.specs.Function.{function_number, try_from};
+
+    ghost from_gives = { λ f n. (n ≡ function_number f) × (try_from n ≡ Ok f) };
+
+    fn from(function: BvlcFunction) -> u8 {
+        function as u8
     }
 }

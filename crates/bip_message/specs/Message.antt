@@ -1,15 +1,17 @@
 -- What a BVLC message carries: questions 11 to 15, the answer and the NPDU.
 -- Assumes nothing.
-use Rattle.std.specs.Prelude.{ℕ, ◌+◌, ◌≡◌, Bool, true, cond, List, [], ◌∷◌, ◌++◌, eqb, ltb, length, get_or, drop}
+use Rattle.std.specs.Prelude.{ℕ, ◌+◌, ◌≡◌, Bool, true, cond, List, [], ◌∷◌, ◌++◌, eqb, ltb, length, get_or, drop, Result, Ok, Err}
 use Rattle.octets.specs.Number.{number}
 use Rattle.octets.specs.Range.{within}
-use Rattle.octets.specs.Question.{Question, ask, first_no, answered}
+use Rattle.octets.specs.Question.{Question, ask, first_no}
+use Rattle.octets.specs.Refusal.{result_of}
+use Rattle.octets.specs.declared.refusal.Refusal.{Refusal}
 use Rattle.bip_header.specs.declared.function.BvlcFunction.{BvlcFunction}
 use Rattle.bip_header.specs.declared.function.BvlcFunction.TheVariants.{OriginalUnicastNpdu}
 use Rattle.bip_header.specs.Function.{function_number}
 use Rattle.bip_header.specs.Header.{header_octets, header_questions, message_function, message_length}
 use Rattle.bip_message.specs.declared.BvlcMessage.{BvlcMessage}
-use Rattle.bip_message.specs.declared.BvlcMessage.TheVariants.{Npdu, TimeToLive, NoNpdu, Refused}
+use Rattle.bip_message.specs.declared.BvlcMessage.TheVariants.{Npdu, TimeToLive, NoNpdu}
 
 -- a registration of exactly 6 octets carries a time to live
 unfoldable pub registration : List ℕ → BvlcMessage
@@ -29,7 +31,11 @@ abbrev pub npdu_there : BvlcMessage → ℕ → Bool
 npdu_there (Npdu start) size = ltb start size
 npdu_there (TimeToLive n) size = true
 npdu_there NoNpdu size = true
-npdu_there (Refused q) size = true
+
+-- what question 15 answers of what is carried
+abbrev pub npdu_asked : BvlcMessage → List ℕ → Result BvlcMessage Refusal
+npdu_asked carried s =
+    result_of (first_no (ask 15 (npdu_there carried (length s)) ∷ [])) carried
 
 -- the questions behind the header's, of the length that it says, the octets given and what they carry
 unfoldable pub questions_behind : ℕ → ℕ → BvlcMessage → List Question
@@ -49,15 +55,15 @@ unfoldable pub message_question : List ℕ → ℕ
 message_question s = first_no (message_questions s)
 
 -- the answer: what the message carries, or the question
-unfoldable pub process : List ℕ → BvlcMessage
-process s = answered Refused (message_question s) (carried_by s)
+unfoldable pub process : List ℕ → Result BvlcMessage Refusal
+process s = result_of (message_question s) (carried_by s)
 
 -- the octets of an NPDU; none for every other answer
-abbrev pub npdu_of : BvlcMessage → List ℕ → List ℕ
-npdu_of (Npdu start) s = drop start s
-npdu_of (TimeToLive n) s = []
-npdu_of NoNpdu s = []
-npdu_of (Refused q) s = []
+abbrev pub npdu_of : Result BvlcMessage Refusal → List ℕ → List ℕ
+npdu_of (Ok (Npdu start)) s = drop start s
+npdu_of (Ok (TimeToLive n)) s = []
+npdu_of (Ok NoNpdu) s = []
+npdu_of (Err refusal) s = []
 
 -- the NPDU of a message
 unfoldable pub npdu : List ℕ → List ℕ
@@ -77,8 +83,8 @@ abbrev pub Whole : List ℕ → List ℕ → Type 0
 Whole s part = (function : BvlcFunction) (address body : List ℕ) → LaidOut s function address body → part ≡ body
 
 -- where an NPDU is answered, the message is one, of the function read, some address, and the part
-abbrev pub Carries : List ℕ → BvlcMessage → List ℕ → Type 0
-Carries s (Npdu start) part = (address : List ℕ) × LaidOut s (message_function s) address part
-Carries s (TimeToLive n) part = Unit {0}
-Carries s NoNpdu part = Unit {0}
-Carries s (Refused q) part = Unit {0}
+abbrev pub Carries : List ℕ → Result BvlcMessage Refusal → List ℕ → Type 0
+Carries s (Ok (Npdu start)) part = (address : List ℕ) × LaidOut s (message_function s) address part
+Carries s (Ok (TimeToLive n)) part = Unit {0}
+Carries s (Ok NoNpdu) part = Unit {0}
+Carries s (Err refusal) part = Unit {0}

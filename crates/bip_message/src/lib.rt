@@ -2,102 +2,65 @@
 #![tactic(auto)]
 
 ghost use Rattle.std.specs.Prelude.{◌≡◌};
-ghost use Rattle.bip_message.specs.Message.{registration, message_of, npdu_there, questions_behind, process, npdu, LeastLaidOut, Whole, Carries};
-ghost use Rattle.octets.specs.Question.{first_no, answered};
-ghost use Rattle.bip_message.specs.declared.BvlcMessage.TheVariants.{Refused};
+ghost use Rattle.bip_header.specs.Function.{function_number};
+ghost use Rattle.bip_message.specs.Message.{npdu_asked, message_of, process, npdu, LeastLaidOut, Whole, Carries};
 
-use bip_header::BvlcDecoded;
-
-// The numbers of the functions that carry something.
-const FORWARDED_NPDU: u8 = 0x04;
-
-const REGISTER_FOREIGN_DEVICE: u8 = 0x05;
-
-const ORIGINAL_UNICAST_NPDU: u8 = 0x0A;
-
-const ORIGINAL_BROADCAST_NPDU: u8 = 0x0B;
+use bip_header::BvlcFunction;
+use octets::Refusal;
 
 // The octet at which an NPDU starts: behind the header, or behind the address of the device that sent it first.
 const NPDU_START: usize = 4;
 
 const FORWARDED_NPDU_START: usize = 10;
 
-// Octets of a registration.
-const REGISTRATION_SIZE: usize = 6;
-
-// What a message carries: an NPDU, from an octet on to its end; a time to live; or nothing that is handed on. Or the
-// number of the first question that failed.
+// What a message carries: an NPDU, from an octet on to its end; a time to live; or nothing that is handed on.
 #[derive(Clone, Copy)]
 pub enum BvlcMessage {
     Npdu(usize),
     TimeToLive(u16),
     NoNpdu,
-    Refused(u8),
 }
 
-// The time to live of a registration.
-fn registration(message: &[u8]) -> BvlcMessage
-    ensures { result ≡ registration message.now }
+// An NPDU that starts at an octet of a message, or question 15: none does if the message ends before that octet.
+#[tactic(auto, unfolding(octets::specs::Question::first_no, octets::specs::Question::answered))]
+fn npdu_from(start: usize, message: &[u8]) -> Result<BvlcMessage, Refusal>
+    ensures { result ≡ npdu_asked (BvlcMessage.Npdu start) message.now }
 {
-    if message.len() != REGISTRATION_SIZE {
-        return BvlcMessage::NoNpdu;
+    if message.len() <= start {
+        return Err(Refusal::BvlcNoNpdu);
     }
-    BvlcMessage::TimeToLive(octets::number(message[4], message[5]))
+    Ok(BvlcMessage::Npdu(start))
 }
 
-// What a message carries by its function's number.
-fn message_of(number: u8, message: &[u8]) -> BvlcMessage
-    ensures { result ≡ message_of number message.now }
+// What a message carries by its function, or question 15. A registration of exactly 6 octets carries a time to live.
+#[tactic(auto, unfolding(octets::specs::Question::first_no, octets::specs::Question::answered, octets::specs::Range::within, crate::specs::Message::registration))]
+fn message_of(function: BvlcFunction, message: &[u8]) -> Result<BvlcMessage, Refusal>
+    ensures { result ≡ npdu_asked (message_of (function_number function) message.now) message.now }
 {
-    if octets::within(ORIGINAL_UNICAST_NPDU, ORIGINAL_BROADCAST_NPDU, number) {
-        return BvlcMessage::Npdu(NPDU_START);
+    match function {
+        BvlcFunction::OriginalUnicastNpdu | BvlcFunction::OriginalBroadcastNpdu => {
+            npdu_from(NPDU_START, message)
+        }
+        BvlcFunction::ForwardedNpdu => npdu_from(FORWARDED_NPDU_START, message),
+        BvlcFunction::RegisterForeignDevice => match message {
+            [_, _, _, _, high, low] => {
+                Ok(BvlcMessage::TimeToLive(u16::from_be_bytes([*high, *low])))
+            }
+            _ => Ok(BvlcMessage::NoNpdu),
+        },
+        _ => Ok(BvlcMessage::NoNpdu),
     }
-    if number == FORWARDED_NPDU {
-        return BvlcMessage::Npdu(FORWARDED_NPDU_START);
-    }
-    if number == REGISTER_FOREIGN_DEVICE {
-        return registration(message);
-    }
-    BvlcMessage::NoNpdu
-}
-
-// Whether an NPDU that starts within a message of that size has an octet.
-fn npdu_there(carried: BvlcMessage, size: usize) -> bool
-    ensures { result ≡ npdu_there carried size }
-{
-    match carried {
-        BvlcMessage::Npdu(start) => start < size,
-        BvlcMessage::TimeToLive(_) => true,
-        BvlcMessage::NoNpdu => true,
-        BvlcMessage::Refused(_) => true,
-    }
-}
-
-// Questions 14 and 15 put to a message of that size whose header says that length.
-fn behind_header(length: u16, size: usize, carried: BvlcMessage) -> BvlcMessage
-    ensures { result ≡ answered Refused (first_no (questions_behind length size carried)) carried }
-{
-    if length as usize != size {
-        return BvlcMessage::Refused(14);
-    }
-    if !npdu_there(carried, size) {
-        return BvlcMessage::Refused(15);
-    }
-    carried
 }
 
 // What a message carries, or the first of questions 11 to 15 that fails.
-pub fn process_bvlc_message(message: &[u8]) -> BvlcMessage
+pub fn process_bvlc_message(message: &[u8]) -> Result<BvlcMessage, Refusal>
     ensures { result ≡ process message.now }
 {
-    match bip_header::decode(message) {
-        BvlcDecoded::Header(header) => {
-            let function = header.function;
-            let carried = message_of(function.to_u8(), message);
-            behind_header(header.length, message.len(), carried)
-        }
-        BvlcDecoded::Refused(question) => BvlcMessage::Refused(question),
+    let header = bip_header::decode(message)?;
+    if usize::from(header.length) != message.len() {
+        return Err(Refusal::BvlcLength);
     }
+    message_of(header.function, message)
 }
 
 // The NPDU of a message, as a part of its octets: exactly what stands behind the header, and behind the address where
@@ -108,10 +71,11 @@ pub fn npdu(message: &[u8]) -> &[u8]
     ensures carries { Carries message.now (process message.now) result.now }
     ensures least { LeastLaidOut }
 {
-    match process_bvlc_message(message) {
+    let Ok(carried) = process_bvlc_message(message) else {
+        return &message[..0];
+    };
+    match carried {
         BvlcMessage::Npdu(start) => &message[start..],
-        BvlcMessage::TimeToLive(_) => &message[..0],
-        BvlcMessage::NoNpdu => &message[..0],
-        BvlcMessage::Refused(_) => &message[..0],
+        _ => &message[..0],
     }
 }

@@ -2,7 +2,7 @@
 // nothing is printed and standard error has a message.
 #![tactic(auto)]
 
-use log_input::{InputListed, ROOM};
+use log_input::{ListError, ROOM};
 
 // Says why there is no listing.
 fn complain<P: Print>(to: &P, message: &[u8]) {
@@ -11,9 +11,11 @@ fn complain<P: Print>(to: &P, message: &[u8]) {
 
 fn main(rt: HostRuntime) {
     match log_input::list_input(&rt, &mut rt.stdin(), ROOM) {
-        InputListed::Printed(_, _) => {}
-        InputListed::NotRead => complain(&rt.stderr(), b"buslog: standard input cannot be read\n"),
-        InputListed::NotWritten => {
+        Ok(_) => {}
+        Err(ListError::NotRead) => {
+            complain(&rt.stderr(), b"buslog: standard input cannot be read\n")
+        }
+        Err(ListError::NotWritten) => {
             complain(&rt.stderr(), b"buslog: standard output cannot be written\n")
         }
     }

@@ -3,19 +3,15 @@
 // printed.
 #![tactic(auto)]
 
-use log_input::{InputListed, ROOM};
+use log_input::{ListError, ROOM};
 use std::fs::File;
 use std::io::Read;
 use std::{env, io};
 
 // Lists what a reader has.
 fn list_from<R: Read>(rt: &HostRuntime, from: &mut R, piece: usize) {
-    match log_input::list_input(rt, from, piece) {
-        InputListed::Printed(_, _) => {}
-        InputListed::NotRead => {
-            let _ = println!(rt; "not read");
-        }
-        InputListed::NotWritten => {}
+    if let Err(ListError::NotRead) = log_input::list_input(rt, from, piece) {
+        let _ = println!(rt; "not read");
     }
 }
 

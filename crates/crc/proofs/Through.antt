@@ -2,20 +2,19 @@
 -- Assumes nothing.
 use mathlib.Core.Path.{◌≡◌, refl, sym, ap, ◌∙◌}
 use mathlib.Core.List.{List, [], ◌∷◌}
-use Prim.Native.Nat.{ℕ, zero, suc, ◌-◌, ◌^◌, ◌<◌}
+use Prim.Native.Nat.{ℕ, suc, ◌-◌, ◌/◌, ◌%◌, ◌^◌, ◌<◌}
 use native.Mathlib.Omega.{arith}
-use lib.Bits.{bit_xor, xor_lt}
+use native.Mathlib.Nat.{mod-eq_of_lt}
+use lib.Bits.{bit_xor, xor_lt, xor_zero_r}
 use lib.Dec.{lit<}
 use lib.ListN.{length, get_or, drop, drop_of_length-le}
 use lib.Seq.{drop-cons}
 use Rattle.crc_tables.specs.Table.{table_of}
-use Rattle.crc_tables.proofs.Table.{octet_at}
-use Rattle.crc.specs.Check.{octet_step, register, check}
-use Rattle.crc.specs.Rule.{header_constant, header_check}
-use Rattle.crc.specs.Through.{through, check_through, RuleThrough}
-use Rattle.crc.specs.declared.CheckRule.{CheckRule}
-use Rattle.crc.specs.declared.CheckRule.TheVariants.{AnnexG, House}
-use Rattle.crc.proofs.Width.{AllBelow, octet_step_fits}
+use Rattle.std.specs.List.{fold}
+use Rattle.crc.specs.Check.{octet_step, register}
+use Rattle.crc.specs.Through.{octet_through, through, check_through}
+use Rattle.crc.proofs.Table.{low_law}
+use Rattle.crc.proofs.Width.{AllBelow}
 
 -- a list of five, one by one
 pub five : (s : List ℕ) → length s ≡ 5 → get_or s 0 0 ∷ get_or s 1 0 ∷ get_or s 2 0 ∷ get_or s 3 0 ∷ get_or s 4 0 ∷ [] ≡ s
@@ -32,48 +31,31 @@ five s h =
     ∙ ap (λ (l : List ℕ). get_or s 3 0 ∷ l)
     (at 4 (omega arith) ∙ ap (λ (l : List ℕ). get_or s 4 0 ∷ l) (drop_of_length-le s {i = 5} (omega arith)))))))
 
--- five octets, one after the other
-pub five_through : (t : List ℕ) (x a b c d e : ℕ) {p q r s z : ℕ} → p ≡ get_or t (bit_xor x a) 0 → q ≡ get_or t (bit_xor p b) 0
-    → r ≡ get_or t (bit_xor q c) 0 → s ≡ get_or t (bit_xor r d) 0 → z ≡ get_or t (bit_xor s e) 0 → z ≡ through t x (a ∷ b ∷ c ∷ d ∷ e ∷ [])
-unfolding through
-five_through t x a b c d e hp hq hr hs hz = cc
-
+-- through the table of a constant k it is the register of k
 module _ (k : ℕ) {t : List ℕ} (e : t ≡ table_of k) where
-  -- an octet
-  pub octet_through : (x b : ℕ) → x < 2 ^ 8 → b < 2 ^ 8 → get_or t (bit_xor x b) 0 ≡ octet_step k x b
-  unfolding octet_step
-  octet_through x b hx hb = octet_at k (bit_xor x b) e (xor_lt 8 x b hx hb)
+  pub through_register : (x : ℕ) (s : List ℕ) → fold (octet_through t) x s ≡ register k x s
+  unfolding octet_through register octet_step
+  through_register x [] = refl
+  through_register x (b ∷ s) =
+      ap (λ (y : ℕ). fold (octet_through t) y s) (low_law k (bit_xor x b) e) ∙ through_register (octet_step k x b) s
 
-  -- octets
-  pub through_law : (x : ℕ) (s : List ℕ) → k < 2 ^ 8 → x < 2 ^ 8 → AllBelow (2 ^ 8) s → through t x s ≡ register k x s
-  unfolding through register
-  through_law x [] hk hx hs = refl
-  through_law x (b ∷ s) hk hx hs =
-      ap (λ (y : ℕ). through t y s) (octet_through x b hx (hs 0))
-      ∙ through_law (octet_step k x b) s hk (octet_step_fits 8 k x b hk hx (hs 0)) (λ i. hs (suc i))
+-- through a table of octets it stays one
+module _ (t : List ℕ) (ht : AllBelow (2 ^ 8) t) where
+  pub eight_through : (x : ℕ) (s : List ℕ) → x < 2 ^ 8 → AllBelow (2 ^ 8) s → (fold (octet_through t) x s ≡ through t x s) × (through t x s < 2 ^ 8)
+  unfolding octet_through through
+  eight_through x [] hx hs = (refl, hx)
+  eight_through x (b ∷ s) hx hs =
+      let z = bit_xor x b in
+      let below : z < 2 ^ 8 = xor_lt 8 x b hx (hs 0) in
+      let low : z % 256 ≡ z = mod-eq_of_lt below in
+      let high : z / 256 ≡ 0 = omega (arith, below) in
+      let step : bit_xor (get_or t (z % 256) 0) (z / 256) ≡ get_or t z 0 = rw (low, high) (xor_zero_r (get_or t z 0)) in
+      let more = eight_through (get_or t z 0) s (ht z) (λ i. hs (suc i)) in
+      (ap (λ (y : ℕ). fold (octet_through t) y s) step ∙ more.0, more.1)
 
--- five octets by value
-pub five_below : (a b c d e : ℕ) → a < 2 ^ 8 → b < 2 ^ 8 → c < 2 ^ 8 → d < 2 ^ 8 → e < 2 ^ 8 → AllBelow (2 ^ 8) (a ∷ b ∷ c ∷ d ∷ e ∷ [])
-five_below a b c d e ha hb hc hd he zero = ha
-five_below a b c d e ha hb hc hd he (suc zero) = hb
-five_below a b c d e ha hb hc hd he (suc (suc zero)) = hc
-five_below a b c d e ha hb hc hd he (suc (suc (suc zero))) = hd
-five_below a b c d e ha hb hc hd he (suc (suc (suc (suc zero)))) = he
-five_below a b c d e ha hb hc hd he (suc (suc (suc (suc (suc i))))) = lit< tt
-
--- a rule's header constant has eight bits
-header_constant_lem : (rule : CheckRule) → header_constant rule < 2 ^ 8
-header_constant_lem AnnexG = lit< tt
-header_constant_lem House = lit< tt
-
--- the check of five octets
-pub five_checked : (t s : List ℕ) {r : ℕ} → AllBelow (2 ^ 8) s → length s ≡ 5
-    → r ≡ through t 0xFF (get_or s 0 0 ∷ get_or s 1 0 ∷ get_or s 2 0 ∷ get_or s 3 0 ∷ get_or s 4 0 ∷ [])
-    → (0xFF - r ≡ check_through t s) × RuleThrough t s (0xFF - r)
-unfolding check_through header_check check
-five_checked t s hs h e =
-    let whole = e ∙ ap (through t 0xFF) (five s h) in (
-      ap (λ (r : ℕ). 0xFF - r) whole,
-      λ rule of-rule.
-          ap (λ (r : ℕ). 0xFF - r) (whole ∙ through_law (header_constant rule) of-rule 0xFF s (header_constant_lem rule) (lit< tt) hs),
-    )
+  -- and its complement is the check
+  pub eight_checked : (s : List ℕ) {r : ℕ} → AllBelow (2 ^ 8) s → r ≡ fold (octet_through t) 0xFF s → (r < 2 ^ 8) × (0xFF - r ≡ check_through t s)
+  unfolding check_through
+  eight_checked s hs e =
+      let eight = eight_through 0xFF s (lit< tt) hs in
+      rw (e, eight.0) (eight.1, refl)

@@ -2,8 +2,8 @@
 -- Assumes nothing.
 use mathlib.Core.Path.{◌≡◌, refl, sym, ap, ap₂, subst, ◌∙◌}
 use mathlib.Core.Bool.{true, ◌&&◌}
-use mathlib.Core.List.{List, [], ◌∷◌, ◌++◌, append_assoc}
-use Prim.Native.Nat.{ℕ, suc, ◌+◌, ◌-◌, ◌/◌, ◌%◌, ◌≤◌}
+use mathlib.Core.List.{List, [], ◌++◌, append_assoc}
+use Prim.Native.Nat.{ℕ, ◌+◌, ◌-◌, ◌/◌, ◌%◌, ◌≤◌}
 use native.Mathlib.Omega.{arith}
 use borrow.Author.Tests.{le-leb, leb-true, eq-eqb, eqb-true}
 use lib.Dec.{eqb}
@@ -13,12 +13,13 @@ use Rattle.octets.specs.Range.{within}
 use Rattle.octets.proofs.Numbers.{number_of, high_is, low_is}
 use Rattle.octets.proofs.Parts.{Octets, octets_from, part_is, all_is, front_is, none_is}
 use Rattle.octets.proofs.Questions.{AllYes, all_yes, none_fails, answered_value}
+use Rattle.octets.proofs.Refusals.{accepts}
 use Rattle.octets.proofs.Ranges.{within_true}
 use Rattle.octets.proofs.Tests.{both_true}
 use Rattle.ethernet_decode.specs.declared.EthernetForm.{EthernetForm}
 use Rattle.ethernet_decode.specs.declared.EthernetForm.TheVariants.{EtherType, Length}
 use Rattle.ethernet_decode.specs.Frame.{bacnet_type, field, header_octets, unpadded}
-use Rattle.ethernet_decode.specs.Decode.{destination_of, source_of, field_of, llc_right, form_questions, header_questions, decode_questions, decode_question, payload_length, accepted, refused, decode, payload}
+use Rattle.ethernet_decode.specs.Decode.{destination_of, source_of, field_of, llc_right, form_questions, header_questions, decode_questions, decode_question, payload_length, header, accepted, decode, payload}
 use Rattle.ethernet_decode.specs.RoundTrip.{Ends, LaidOut}
 use Rattle.ethernet_decode.proofs.Questions.{numbered}
 
@@ -148,7 +149,7 @@ module _ (d e body behind : List ℕ) where
       → decode form (listed form) ≡ accepted (octets_from 0 6 d) (octets_from 0 6 e) (length body)
   unfolding unpadded decode
   decode_listed form ends =
-      answered_value refused (accepted (destination_of (listed form)) (source_of (listed form)) (payload_length form (listed form))) (none_listed form ends)
+      sym (accepts (header (destination_of (listed form)) (source_of (listed form)) (payload_length form (listed form))) (none_listed form ends))
       ∙ ap (accepted (octets_from 0 6 d) (octets_from 0 6 e)) (length_listed form ends)
 
   payload_listed : (form : EthernetForm) → Ends form (length (listed form)) behind → payload form (listed form) ≡ body
@@ -176,15 +177,3 @@ module _ (form : EthernetForm) (s d e body : List ℕ) (laid : LaidOut form s d 
 
   pub payload_back_lem : payload form s ≡ body
   payload_back_lem = ap (payload form) listed_is ∙ payload_listed d e body laid.behind form ends_listed
-
--- six octets read one by one
-pub six : (i : ℕ) (s : List ℕ) → i + 6 ≤ length s
-    → get_or s i 0 ∷ get_or s (i + 1) 0 ∷ get_or s (i + 2) 0 ∷ get_or s (i + 3) 0 ∷ get_or s (i + 4) 0 ∷ get_or s (i + 5) 0 ∷ []
-    ≡ take 6 (drop i s)
-six i s h =
-    let one : i + 1 ≡ suc i = omega arith in
-    let two : i + 2 ≡ suc (suc i) = omega arith in
-    let three : i + 3 ≡ suc (suc (suc i)) = omega arith in
-    let four : i + 4 ≡ suc (suc (suc (suc i))) = omega arith in
-    let five : i + 5 ≡ suc (suc (suc (suc (suc i)))) = omega arith in
-    rw (one, two, three, four, five) (sym (part_is i 6 s h))

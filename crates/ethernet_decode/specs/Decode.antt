@@ -1,12 +1,12 @@
 -- Reading an Ethernet frame in either form (21 to 23; or 21, 24, 61, 62, 23) and the file's validator (21, 24, 22, 23).
 -- Assumes nothing.
-use Rattle.std.specs.Prelude.{ℕ, ◌-◌, Bool, ◌&&◌, List, [], ◌∷◌, ◌++◌, leb, eqb, length, get_or, take, drop, replicate}
+use Rattle.std.specs.Prelude.{ℕ, ◌-◌, Bool, ◌&&◌, List, [], ◌∷◌, ◌++◌, leb, eqb, length, get_or, take, drop, Result, Ok}
 use Rattle.octets.specs.Number.{number}
 use Rattle.octets.specs.Question.{Question, ask, first_no, answered}
 use Rattle.octets.specs.Range.{within}
-use Rattle.octets.specs.declared.AcceptResult.{AcceptResult}
-use Rattle.octets.specs.declared.AcceptResult.TheVariants.{Accepted, Refused}
-use Rattle.ethernet_decode.specs.declared.EthernetDecoded.{EthernetDecoded}
+use Rattle.octets.specs.Refusal.{result_of}
+use Rattle.octets.specs.declared.refusal.Refusal.{Refusal}
+use Rattle.ethernet_decode.specs.declared.EthernetHeader.{EthernetHeader}
 use Rattle.ethernet_decode.specs.declared.EthernetForm.{EthernetForm}
 use Rattle.ethernet_decode.specs.declared.EthernetForm.TheVariants.{EtherType, Length}
 use Rattle.ethernet_decode.specs.Frame.{bacnet_type}
@@ -53,27 +53,21 @@ abbrev pub payload_length : EthernetForm → List ℕ → ℕ
 payload_length EtherType s = length s - 17
 payload_length Length s = field_of s - 3
 
--- an answer that accepts, with both addresses and the payload's length
-abbrev pub accepted : List ℕ → List ℕ → ℕ → EthernetDecoded
-accepted destination source n = record {
-  result = Accepted;
+-- what is read: both addresses and the payload's length
+abbrev pub header : List ℕ → List ℕ → ℕ → EthernetHeader
+header destination source n = record {
   dest_mac = destination;
   src_mac = source;
   payload_length = n;
 }
 
--- an answer that refuses: all else is zeros
-abbrev pub refused : ℕ → EthernetDecoded
-refused q = record {
-  result = Refused q;
-  dest_mac = replicate 6 0;
-  src_mac = replicate 6 0;
-  payload_length = 0;
-}
+-- an answer that accepts
+abbrev pub accepted : List ℕ → List ℕ → ℕ → Result EthernetHeader Refusal
+accepted destination source n = Ok (header destination source n)
 
 -- what reading answers
-unfoldable pub decode : EthernetForm → List ℕ → EthernetDecoded
-decode form s = answered refused (decode_question form s) (accepted (destination_of s) (source_of s) (payload_length form s))
+unfoldable pub decode : EthernetForm → List ℕ → Result EthernetHeader Refusal
+decode form s = result_of (decode_question form s) (header (destination_of s) (source_of s) (payload_length form s))
 
 -- the payload; none where reading refuses
 unfoldable pub payload : EthernetForm → List ℕ → List ℕ
@@ -84,5 +78,5 @@ unfoldable pub validate_questions : List ℕ → List Question
 validate_questions s = ask 21 (leb 17 (length s)) ∷ ask 24 (leb (length s) 1514) ∷ header_questions EtherType s
 
 -- what the validator answers
-unfoldable pub validate : List ℕ → AcceptResult
-validate s = answered Refused (first_no (validate_questions s)) Accepted
+unfoldable pub validate : List ℕ → Result (Unit {0}) Refusal
+validate s = result_of (first_no (validate_questions s)) tt

@@ -1,10 +1,8 @@
 -- What the contracts of reading and validating promise beside their equations.
 -- Assumes nothing.
-use Rattle.std.specs.Prelude.{◌≡◌, List, [], ◌++◌, ℕ, ◌≤◌, length}
-use Rattle.octets.specs.Answer.{WhereAccepted}
-use Rattle.octets.specs.declared.AcceptResult.{AcceptResult}
-use Rattle.octets.specs.declared.AcceptResult.TheVariants.{Accepted}
-use Rattle.ethernet_decode.specs.declared.EthernetDecoded.{EthernetDecoded}
+use Rattle.std.specs.Prelude.{◌≡◌, List, [], ◌++◌, ℕ, ◌≤◌, length, Result, IsOk, IfOk, OnOk}
+use Rattle.octets.specs.declared.refusal.Refusal.{Refusal}
+use Rattle.ethernet_decode.specs.declared.EthernetHeader.{EthernetHeader}
 use Rattle.ethernet_decode.specs.declared.EthernetForm.{EthernetForm}
 use Rattle.ethernet_decode.specs.declared.EthernetForm.TheVariants.{EtherType, Length}
 use Rattle.ethernet_decode.specs.Frame.{unpadded}
@@ -24,11 +22,11 @@ pub record LaidOut (form : EthernetForm) (s destination source body : List ℕ) 
   pub ends : Ends form (length s) behind
 
 -- where reading accepts, the octets are laid out so, of the addresses read and the payload
-abbrev pub WritesBack : EthernetForm → List ℕ → EthernetDecoded → Type 0
-WritesBack form s answer = WhereAccepted answer.result (LaidOut form s answer.dest_mac answer.src_mac (payload form s))
+abbrev pub WritesBack : EthernetForm → List ℕ → Result EthernetHeader Refusal → Type 0
+WritesBack form s answer = IfOk answer (λ h. LaidOut form s h.dest_mac h.src_mac (payload form s))
 
 -- where octets are laid out so, reading accepts and gives the addresses and the length of the payload
-abbrev pub FrameOf : EthernetForm → List ℕ → EthernetDecoded → Type 0
+abbrev pub FrameOf : EthernetForm → List ℕ → Result EthernetHeader Refusal → Type 0
 FrameOf form s answer =
     (destination source body : List ℕ) → LaidOut form s destination source body → answer ≡ accepted destination source (length body)
 
@@ -37,13 +35,13 @@ abbrev pub PayloadOf : EthernetForm → List ℕ → List ℕ → Type 0
 PayloadOf form s part = (destination source body : List ℕ) → LaidOut form s destination source body → part ≡ body
 
 -- where reading accepts, it does so in no other form
-abbrev pub OneForm : EthernetForm → List ℕ → EthernetDecoded → Type 0
-OneForm form s answer = WhereAccepted answer.result ((other : EthernetForm) → (decode other s).result ≡ Accepted → other ≡ form)
+abbrev pub OneForm : EthernetForm → List ℕ → Result EthernetHeader Refusal → Type 0
+OneForm form s answer = OnOk answer ((other : EthernetForm) → IsOk (decode other s) → other ≡ form)
 
 -- octets that reading accepts in form EtherType, up to 1514
 abbrev pub Sendable : List ℕ → Type 0
-Sendable s = ((decode EtherType s).result ≡ Accepted) × (length s ≤ 1514)
+Sendable s = IsOk (decode EtherType s) × (length s ≤ 1514)
 
 -- the validator accepts exactly those
-abbrev pub Agrees : List ℕ → AcceptResult → Type 0
-Agrees s answer = (answer ≡ Accepted → Sendable s) × (Sendable s → answer ≡ Accepted)
+abbrev pub Agrees : List ℕ → Result (Unit {0}) Refusal → Type 0
+Agrees s answer = (IsOk answer → Sendable s) × (Sendable s → IsOk answer)

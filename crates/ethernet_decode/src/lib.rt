@@ -2,15 +2,13 @@
 // form EtherType; reading also in form Length, that of clause 7.
 #![tactic(auto)]
 
-mod fields;
-
 ghost use Rattle.std.specs.Prelude.{◌≡◌, ◌≤◌, length};
 ghost use Rattle.octets.specs.Question.{first_no};
-ghost use Rattle.ethernet_decode.specs.Decode.{form_questions, header_questions, decode_question, payload_length};
-ghost use Rattle.ethernet_decode.specs.Decode.{decode, payload, validate};
+ghost use Rattle.octets.specs.Refusal.{result_of};
+ghost use Rattle.ethernet_decode.specs.Decode.{form_questions, decode_question, payload_length, decode, payload, validate};
 ghost use Rattle.ethernet_decode.specs.RoundTrip.{WritesBack, FrameOf, OneForm, PayloadOf, Agrees};
 
-use octets::AcceptResult;
+use octets::Refusal;
 
 // What stands in the two octets after the addresses.
 #[derive(Clone, Copy)]
@@ -25,11 +23,7 @@ pub enum EthernetForm {
 pub const BACNET_ETHERNET_TYPE: u16 = 0x82DC;
 
 // The LLC header: destination and source service access point, control.
-pub const LLC_DSAP: u8 = 0x82;
-
-pub const LLC_SSAP: u8 = 0x82;
-
-pub const LLC_CONTROL: u8 = 0x03;
+pub const BACNET_LLC_HEADER: [u8; 3] = [0x82, 0x82, 0x03];
 
 // Octets of the addresses and the two after them.
 pub const ETHERNET_HEADER_SIZE: usize = 14;
@@ -48,108 +42,77 @@ pub const MAX_ETHERNET_FRAME_SIZE: usize = 1514;
 // Most octets that a length counts.
 const MAX_LENGTH: usize = MAX_ETHERNET_FRAME_SIZE - ETHERNET_HEADER_SIZE;
 
-// What reading answers: the result, both addresses, and how many octets of payload there are; zeros where it refuses.
+// What reading answers: both addresses, and how many octets of payload there are.
 #[derive(Clone, Copy)]
-pub struct EthernetDecoded {
-    pub result: AcceptResult,
+pub struct EthernetHeader {
     pub dest_mac: [u8; 6],
     pub src_mac: [u8; 6],
     pub payload_length: usize,
 }
 
-// The first of a form's questions between 21 and 23 that `frame` fails, or 0.
-fn form_question(form: EthernetForm, frame: &[u8]) -> u8
+// How many octets of payload there are by what a form has after the addresses, or the first of its questions that fails.
+fn form_length(form: EthernetForm, frame: &[u8]) -> Result<usize, Refusal>
     requires { 17 ≤ length frame.now }
-    ensures { result ≡ first_no (form_questions form frame.now) }
+    ensures { result ≡ result_of (first_no (form_questions form frame.now)) (payload_length form frame.now) }
 {
     let size = frame.len();
-    let field = octets::number(frame[12], frame[13]);
+    let field = u16::from_be_bytes([frame[12], frame[13]]);
     match form {
         EthernetForm::EtherType => {
             if field != BACNET_ETHERNET_TYPE {
-                return 22;
+                return Err(Refusal::EthernetType);
             }
-            0
+            Ok(size - BACNET_ETHERNET_HEADER_SIZE)
         }
         EthernetForm::Length => {
-            let counted = field as usize;
+            let counted = usize::from(field);
             if MAX_ETHERNET_FRAME_SIZE < size {
-                return 24;
+                return Err(Refusal::EthernetTooLong);
             }
-            if counted < LLC_HEADER_SIZE {
-                return 61;
-            }
-            if MAX_LENGTH < counted {
-                return 61;
+            if counted < LLC_HEADER_SIZE || MAX_LENGTH < counted {
+                return Err(Refusal::LengthField);
             }
             if size - ETHERNET_HEADER_SIZE < counted {
-                return 62;
+                return Err(Refusal::LengthBeyondEnd);
             }
-            0
+            Ok(counted - LLC_HEADER_SIZE)
         }
     }
 }
 
-// The same, and then question 23.
-fn header_question(form: EthernetForm, frame: &[u8]) -> u8
-    requires { 17 ≤ length frame.now }
-    ensures { result ≡ first_no (header_questions form frame.now) }
-{
-    let question = form_question(form, frame);
-    if question != 0 {
-        return question;
-    }
-    if !fields::llc_right(frame) {
-        return 23;
-    }
-    0
-}
-
-// The first question of reading that `frame` fails, or 0: 21, then the header's.
-fn decode_question(form: EthernetForm, frame: &[u8]) -> u8
-    ensures { result ≡ decode_question form frame.now }
+// How many octets of payload a frame in a form has, or the first of reading's questions that fails.
+fn length_of(form: EthernetForm, frame: &[u8]) -> Result<usize, Refusal>
+    ensures { result ≡ result_of (decode_question form frame.now) (payload_length form frame.now) }
 {
     if frame.len() < BACNET_ETHERNET_HEADER_SIZE {
-        return 21;
+        return Err(Refusal::EthernetTooShort);
     }
-    header_question(form, frame)
-}
-
-// How many octets of payload a frame has that fails no question.
-fn payload_length(form: EthernetForm, frame: &[u8]) -> usize
-    requires { decode_question form frame.now ≡ 0 }
-    ensures { result ≡ payload_length form frame.now }
-{
-    match form {
-        EthernetForm::EtherType => frame.len() - BACNET_ETHERNET_HEADER_SIZE,
-        EthernetForm::Length => octets::number(frame[12], frame[13]) as usize - LLC_HEADER_SIZE,
+    let length = form_length(form, frame)?;
+    if frame[ETHERNET_HEADER_SIZE..BACNET_ETHERNET_HEADER_SIZE] != BACNET_LLC_HEADER[..] {
+        return Err(Refusal::EthernetLlc);
     }
+    Ok(length)
 }
 
 // Reads a frame in a form: both addresses and the length of its payload, which laid out with the payload are the frame;
 // in form Length anything may stand behind it, up to 1514 octets in all. Or the first question that fails. No octets are
 // read in both forms.
-pub fn decode(form: EthernetForm, frame: &[u8]) -> EthernetDecoded
+pub fn decode(form: EthernetForm, frame: &[u8]) -> Result<EthernetHeader, Refusal>
     ensures value { result ≡ decode form frame.now }
     ensures back { WritesBack form frame.now result }
     ensures whole { FrameOf form frame.now result }
     ensures only { OneForm form frame.now result }
 {
-    let question = decode_question(form, frame);
-    if question != 0 {
-        return EthernetDecoded {
-            result: AcceptResult::Refused(question),
-            dest_mac: [0; 6],
-            src_mac: [0; 6],
-            payload_length: 0,
-        };
-    }
-    EthernetDecoded {
-        result: AcceptResult::Accepted,
-        dest_mac: fields::address(frame, 0),
-        src_mac: fields::address(frame, 6),
-        payload_length: payload_length(form, frame),
-    }
+    let payload_length = length_of(form, frame)?;
+    let mut dest_mac = [0; 6];
+    dest_mac.copy_from_slice(&frame[..6]);
+    let mut src_mac = [0; 6];
+    src_mac.copy_from_slice(&frame[6..12]);
+    Ok(EthernetHeader {
+        dest_mac,
+        src_mac,
+        payload_length,
+    })
 }
 
 // The payload of a frame in a form, as a part of its octets: exactly what was laid out. In form EtherType the zeros that
@@ -158,28 +121,21 @@ pub fn payload(form: EthernetForm, frame: &[u8]) -> &[u8]
     ensures result_value { result.now ≡ payload form frame.now }
     ensures whole { PayloadOf form frame.now result.now }
 {
-    if decode_question(form, frame) != 0 {
-        return &frame[..0];
+    match length_of(form, frame) {
+        Ok(length) => &frame[BACNET_ETHERNET_HEADER_SIZE..BACNET_ETHERNET_HEADER_SIZE + length],
+        Err(_) => &frame[..0],
     }
-    let end = BACNET_ETHERNET_HEADER_SIZE + payload_length(form, frame);
-    &frame[BACNET_ETHERNET_HEADER_SIZE..end]
 }
 
 // Whether octets are a frame of form EtherType that may be sent: exactly those that `decode` accepts in that form, up to
-// 1514 of them. Or the first of questions 21, 24, 22 and 23 that fails.
-pub fn validate_ethernet_frame(frame: &[u8]) -> AcceptResult
+// 1514 of them. Or the first of questions 21, 24, 22 and 23 that fails (24 comes first here: what fails it passes 21).
+pub fn validate_ethernet_frame(frame: &[u8]) -> Result<(), Refusal>
     ensures value { result ≡ validate frame.now }
     ensures agrees { Agrees frame.now result }
 {
-    if frame.len() < BACNET_ETHERNET_HEADER_SIZE {
-        return AcceptResult::Refused(21);
-    }
     if MAX_ETHERNET_FRAME_SIZE < frame.len() {
-        return AcceptResult::Refused(24);
+        return Err(Refusal::EthernetTooLong);
     }
-    let question = header_question(EthernetForm::EtherType, frame);
-    if question != 0 {
-        return AcceptResult::Refused(question);
-    }
-    AcceptResult::Accepted
+    length_of(EthernetForm::EtherType, frame)?;
+    Ok(())
 }

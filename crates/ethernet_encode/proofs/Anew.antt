@@ -9,11 +9,12 @@ use lib.Seq.{drop_at}
 use Rattle.octets.specs.Number.{high_first}
 use Rattle.octets.specs.Output.{at_front, write_answer, write_output}
 use Rattle.octets.specs.Question.{first_no}
-use Rattle.octets.specs.declared.CountResult.{CountResult}
-use Rattle.octets.specs.declared.CountResult.TheVariants.{Count, Refused}
+use Rattle.std.specs.Prelude.{Result, Ok}
+use Rattle.octets.specs.declared.refusal.Refusal.{Refusal}
 use Rattle.octets.proofs.Outputs.{take_front}
 use Rattle.octets.proofs.Parts.{all_octets, all_octets_lem, octets_join, octets_repeat}
 use Rattle.octets.proofs.Questions.{answered_value}
+use Rattle.octets.proofs.Refusals.{accepts}
 use Rattle.ethernet_decode.specs.declared.EthernetForm.{EthernetForm}
 use Rattle.ethernet_decode.specs.declared.EthernetForm.TheVariants.{EtherType, Length}
 use Rattle.ethernet_decode.specs.Frame.{llc_header, field, header_octets, unpadded}
@@ -94,13 +95,13 @@ module _ (form : EthernetForm) (d e body out : List ℕ) where
       ∙ ap (λ (l : List ℕ). unpadded form d e body ++ l) (sym behind)
       ∙ sym laid.octets
 
-  pub writes_anew : {answer : CountResult} {l : List ℕ} → answer ≡ encode_answer form d e body out → l ≡ encode_output form d e body out
+  pub writes_anew : {answer : Result ℕ Refusal} {l : List ℕ} → answer ≡ encode_answer form d e body out → l ≡ encode_output form d e body out
       → WritesAnew form d e body out l answer
   unfolding encode_answer encode_output encode_question write_answer write_output
   writes_anew told left s octets r =
       let same = same_frame s octets r in
       let none : encode_question form d e body out ≡ 0 = ap (λ (f : List ℕ). first_no (encode_questions f out)) same ∙ r.asked in (
-        told ∙ answered_value Refused (Count (length (ethernet_frame form d e body))) none ∙ ap (λ (f : List ℕ). Count (length f)) same,
+        told ∙ sym (accepts (length (ethernet_frame form d e body)) none) ∙ ap (λ (f : List ℕ). Ok (length f)) same,
         ap (λ (l : List ℕ). take (length s) l)
             (left ∙ answered_value (λ _. out) (at_front (ethernet_frame form d e body) out) none ∙ ap (λ (f : List ℕ). at_front f out) same)
             ∙ take_front s out,

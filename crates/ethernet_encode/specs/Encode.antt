@@ -1,9 +1,9 @@
 -- Writing an Ethernet frame: questions 24 and 25, the answer and the lent output.
 -- Assumes nothing.
-use Rattle.std.specs.Prelude.{ℕ, List, [], ◌∷◌, leb, length}
+use Rattle.std.specs.Prelude.{ℕ, List, [], ◌∷◌, leb, length, Result}
 use Rattle.octets.specs.Question.{Question, ask, first_no}
 use Rattle.octets.specs.Output.{write_answer, write_output}
-use Rattle.octets.specs.declared.CountResult.{CountResult}
+use Rattle.octets.specs.declared.refusal.Refusal.{Refusal}
 use Rattle.ethernet_decode.specs.declared.EthernetForm.{EthernetForm}
 use Rattle.ethernet_encode.specs.Frame.{ethernet_frame}
 
@@ -21,7 +21,7 @@ module _ (form : EthernetForm) (destination source body out : List ℕ) where
   encode_question = first_no (encode_questions frame out)
 
   -- what writing answers: the frame's octet count, or the question
-  unfoldable pub encode_answer : CountResult
+  unfoldable pub encode_answer : Result ℕ Refusal
   encode_answer = write_answer encode_question frame
 
   -- the lent output afterwards: the frame at its front, or as it was

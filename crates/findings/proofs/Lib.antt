@@ -1,3 +1,4 @@
+pub mod Filled
 pub mod NoFindings
+pub mod Quiet
 pub mod Stored
-pub mod Valid

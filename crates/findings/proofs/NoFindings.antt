@@ -1,58 +1,46 @@
--- A result is faultless where no test fires, and then its lists are empty.
+-- A result without findings: its lists are empty, and no test fires.
 -- Assumes nothing.
 use mathlib.Core.Path.{◌≡◌, refl}
-use mathlib.Core.Bool.{Bool, true, false}
+use mathlib.Core.Bool.{Bool, true, false, cond, ◌&&◌}
 use mathlib.Core.List.{List, [], ◌∷◌}
-use Prim.Native.Nat.{ℕ, ◌≤◌}
+use Prim.Native.Nat.{ℕ}
 use native.Mathlib.Omega.{arith}
-use borrow.Author.Tests.{eq-eqb, eqb-true, le-ltb}
-use lib.Dec.{eqb}
+use borrow.Author.Tests.{eqb-true, leb-true, leb-false, le-ltb, lt-ltb}
+use lib.Dec.{eqb, leb, ltb}
 use lib.ListN.{length}
-use Rattle.octets.proofs.Tests.{both_true, same_test}
-use Rattle.findings.specs.declared.Finding.{Finding}
+use Rattle.std.specs.Prelude.{Option}
+use Rattle.octets.proofs.Tests.{both_true}
+use Rattle.findings.specs.declared.error.ValidationError.{ValidationError}
+use Rattle.findings.specs.declared.error.ValidationError.TheVariants.{FrameTooShort}
+use Rattle.findings.specs.declared.warning.ValidationWarning.{ValidationWarning}
 use Rattle.findings.specs.declared.LinkType.{LinkType}
 use Rattle.findings.specs.Result.{Test, found, errors_of, warnings_of, validation_result, faultless}
-use Rattle.findings.proofs.Valid.{NoneFires, none_found, none_fires, valid, valid_if}
+use Rattle.findings.proofs.Quiet.{quiet, quiet_is}
 
 -- findings that count 0 are none
-none : (findings : List Finding) → eqb (length findings) 0 ≡ true → findings ≡ []
+none : {F : Type 0} (findings : List F) → eqb (length findings) 0 ≡ true → findings ≡ []
 none [] e = refl
-none (entry ∷ findings) e = absurd (omega (arith, eqb-true (length (entry ∷ findings)) 0 e))
+none (finding ∷ findings) e = absurd (omega (arith, eqb-true (length (finding ∷ findings)) 0 e))
 
 -- the result without findings is what a faultless one is
-pub clean : (link : LinkType) (size : ℕ) (errors warnings : List Finding) → faultless (validation_result link size errors warnings) ≡ true
+pub clean : (link : Option LinkType) (size : ℕ) (errors : List ValidationError) (warnings : List ValidationWarning)
+    → faultless (validation_result link size errors warnings) ≡ true
     → validation_result link size [] [] ≡ validation_result link size errors warnings
-unfolding faultless validation_result
+unfolding faultless
 clean link size errors warnings e =
     let b = both_true (eqb (length errors) 0) (eqb (length warnings) 0) e in
     rw (none errors b.0, none warnings b.1)
 
-module _ (link : LinkType) (size minimum : ℕ) (error_tests warning_tests : List Test) where
-  -- long enough, and no test fires
-  abbrev pub Passes : Type 0
-  Passes = (minimum ≤ size) × (NoneFires error_tests × NoneFires warning_tests)
-
-  -- whether the validator of these tests finds nothing
-  abbrev pub finds_nothing : Bool
-  finds_nothing = faultless (validation_result link size (errors_of minimum size error_tests) (warnings_of minimum size warning_tests))
-
-  passes : finds_nothing ≡ true → Passes
-  unfolding faultless validation_result warnings_of
-  passes e =
-      let b = both_true (eqb (length (errors_of minimum size error_tests)) 0) (eqb (length (warnings_of minimum size warning_tests)) 0) e in
-      let v = valid minimum size error_tests b.0 in
-      (v.0, (v.1, none_found warning_tests (eqb-true (length (found warning_tests)) 0 (rw (le-ltb size minimum v.0) at b.1))))
-
-  passed : Passes → finds_nothing ≡ true
-  unfolding faultless validation_result warnings_of
-  passed p =
-      rw (valid_if minimum size error_tests p.0 p.1.0, le-ltb size minimum p.0)
-      (eq-eqb (length (found warning_tests)) 0 (none_fires warning_tests p.1.1))
-
-  -- a test that says whether all pass says whether nothing is found
-  pub decides : (b : Bool) → (b ≡ true → Passes) → (Passes → b ≡ true) → b ≡ finds_nothing
-  decides b there back = same_test b finds_nothing (λ e. passed (there e)) (λ e. back (passes e))
-
-  -- where some test does not, something is
-  pub refutes : (Passes → ⊥) → false ≡ finds_nothing
-  refutes bad = decides false (λ e. let z : ◌≡◌ {A = ℕ} 0 1 = cc in absurd (omega arith)) (λ p. absurd (bad p))
+-- a result is faultless where there are octets enough and no test fires
+pub faultless_is : (link : Option LinkType) (size minimum : ℕ) (error_tests : List (Test ValidationError)) (warning_tests : List (Test ValidationWarning))
+    → leb minimum size && (quiet error_tests && quiet warning_tests)
+    ≡ faultless (validation_result link size (errors_of minimum size error_tests) (warnings_of minimum size warning_tests))
+unfolding faultless errors_of warnings_of
+faultless_is link size minimum error_tests warning_tests = by (leb minimum size) refl
+  where
+    by : (b : Bool) → leb minimum size ≡ b
+        → b && (quiet error_tests && quiet warning_tests)
+        ≡ eqb (length (cond (ltb size minimum) (FrameTooShort size minimum ∷ []) (found error_tests))) 0
+        && eqb (length (cond (ltb size minimum) [] (found warning_tests))) 0
+    by true e = rw (le-ltb size minimum (leb-true minimum size e), quiet_is error_tests, quiet_is warning_tests)
+    by false e = rw (lt-ltb size minimum (leb-false minimum size e))

@@ -1,116 +1,85 @@
--- Entries stored test by test are the findings of the tests.
+-- Findings put behind one another, test by test, are those of the tests.
 -- Assumes nothing.
 use mathlib.Core.Path.{◌≡◌, refl, sym, ap, ◌∙◌}
-use mathlib.Core.Bool.{Bool, true, false, cond}
-use mathlib.Core.List.{List, [], ◌∷◌, ◌++◌, append_assoc, append-nil}
-use Prim.Native.Nat.{ℕ, suc, ◌+◌, ◌-◌, ◌≤◌, ◌<◌}
+use mathlib.Core.Bool.{Bool, true, false}
+use mathlib.Core.List.{List, [], ◌∷◌, ◌++◌}
+use Prim.Native.Nat.{ℕ, zero, suc, ◌≤◌, ◌<◌}
 use native.Mathlib.Omega.{arith}
 use borrow.Author.Tests.{lt-ltb, le-ltb}
 use lib.Dec.{eqb}
-use lib.ListN.{length, replicate, set, length-append}
-use lib.Seq.{set-append_seam}
+use lib.ListN.{length, take}
+use Rattle.std.specs.Prelude.{Option, option_to_list}
+use Rattle.std.proofs.lemmas.List.{take_all}
+use Rattle.findings.specs.declared.error.ValidationError.{ValidationError}
+use Rattle.findings.specs.declared.error.ValidationError.TheVariants.{FrameTooShort}
+use Rattle.findings.specs.declared.warning.ValidationWarning.{ValidationWarning}
 use Rattle.findings.specs.declared.LinkType.{LinkType}
 use Rattle.findings.specs.declared.ValidationResult.{ValidationResult}
-use Rattle.findings.specs.declared.Finding.{Finding}
-use Rattle.findings.specs.Finding.{unused, frame_too_short}
-use Rattle.findings.specs.Result.{Test, finds, found, filled, stored, errors_of, warnings_of, validation_result}
+use Rattle.findings.specs.Result.{Test, finds, given, found, errors_of, warnings_of, validation_result, is_valid}
 
--- some tests and one behind them
-found_append : (tests : List Test) (test : Test) → found (tests ++ test ∷ []) ≡ found tests ++ found (test ∷ [])
-unfolding found
-found_append [] test = refl
-found_append (finds true entry ∷ tests) test = ap (λ (l : List Finding). entry ∷ l) (found_append tests test)
-found_append (finds false entry ∷ tests) test = found_append tests test
+module _ {F : Type 0} where
+  -- what is taken of a front does not depend on what was cut off it
+  take_front : (n : ℕ) (xs ys : List F) → take n (take n xs ++ ys) ≡ take n (xs ++ ys)
+  take_front zero xs ys = refl
+  take_front (suc n) [] ys = refl
+  take_front (suc n) (x ∷ xs) ys = ap (λ (l : List F). x ∷ l) (take_front n xs ys)
 
-module _ (n : ℕ) (findings : List Finding) (room : length findings < n) where
-  one_free : n - length findings ≡ suc (n - (length findings + 1))
-  one_free = omega arith
-
-  -- an entry stored behind some findings
-  filled_more : (entry : Finding) → set (filled n findings) (length findings) entry ≡ filled n (findings ++ entry ∷ [])
-  unfolding filled
-  filled_more entry =
-      ap (λ (k : ℕ). set (findings ++ replicate k unused) (length findings) entry) one_free
-      ∙ set-append_seam findings unused (replicate (n - (length findings + 1)) unused) entry
-      ∙ sym (append_assoc findings (entry ∷ []) (replicate (n - (length findings + 1)) unused))
-      ∙ ap (λ (k : ℕ). (findings ++ entry ∷ []) ++ replicate (n - k) unused) (sym (length-append findings (entry ∷ [])))
-
-  -- an unused one is none
-  idle : filled n (findings ++ unused ∷ []) ≡ filled n findings
-  unfolding filled
-  idle =
-      ap (λ (k : ℕ). (findings ++ unused ∷ []) ++ replicate (n - k) unused) (length-append findings (unused ∷ []))
-      ∙ append_assoc findings (unused ∷ []) (replicate (n - (length findings + 1)) unused)
-      ∙ ap (λ (k : ℕ). findings ++ replicate k unused) (sym one_free)
-
-  -- what a test stores is its finding
-  store : (test : Test) → set (filled n findings) (length findings) (stored test) ≡ filled n (findings ++ found (test ∷ []))
+  -- some tests and one behind them
+  found_append : (tests : List (Test F)) (test : Test F) → found (tests ++ test ∷ []) ≡ found tests ++ option_to_list (given test)
   unfolding found
-  store (finds true entry) = filled_more entry
-  store (finds false entry) = filled_more unused ∙ idle ∙ ap (filled n) (sym (append-nil findings))
+  found_append [] (finds true finding) = refl
+  found_append [] (finds false finding) = refl
+  found_append (finds true finding ∷ tests) test = ap (λ (l : List F). finding ∷ l) (found_append tests test)
+  found_append (finds false finding ∷ tests) test = found_append tests test
 
-count_one : (fires : Bool) (entry : Finding) → length (found (finds fires entry ∷ [])) ≡ cond fires 1 0
-unfolding found
-count_one true entry = refl
-count_one false entry = refl
+  few : (tests : List (Test F)) → length (found tests) ≤ length tests
+  unfolding found
+  few [] = omega arith
+  few (finds true finding ∷ tests) = omega (arith, few tests)
+  few (finds false finding ∷ tests) = omega (arith, few tests)
 
-one_at_most : (fires : Bool) → cond fires 1 0 ≤ 1
-one_at_most true = omega arith
-one_at_most false = omega arith
+-- a list of at most n: the findings of some tests
+pub record Stored {F : Type 0} (n : ℕ) (tests : List (Test F)) (findings : List F) : Type 0 where
+  pub are : findings ≡ take n (found tests)
 
--- n entries and a count: the findings of some tests
-pub record Stored (n : ℕ) (tests : List Test) (entries : List Finding) (count : ℕ) : Type 0 where
-  pub are : entries ≡ filled n (found tests)
-  pub many : count ≡ length (found tests)
-  pub few : count ≤ length tests
+module _ {F : Type 0} where
+  pub none : {n : ℕ} {findings : List F} → findings ≡ [] → Stored n [] findings
+  unfolding found
+  none {n} e = record { are = e ∙ by n }
+    where
+      by : (n : ℕ) → [] ≡ take n (found {F = F} [])
+      by zero = refl
+      by (suc n) = refl
 
-pub none : (n : ℕ) → Stored n [] (replicate n unused) 0
-unfolding found filled
-none n =
-    let same : n ≡ n - 0 = omega arith in
-    record { are = ap (λ (k : ℕ). replicate k unused) same; many = refl; few = omega arith }
+  -- a test more
+  pub next : {n : ℕ} {tests : List (Test F)} {before after : List F} {finding : Option F} (test : Test F)
+      → Stored n tests before → after ≡ take n (before ++ option_to_list finding) → finding ≡ given test → Stored n (tests ++ test ∷ []) after
+  next {n} {tests} test s is-after is_finding = record {
+    are = is-after ∙ rw (s.are, is_finding) (take_front n (found tests) _ ∙ ap (take n) (sym (found_append tests test)));
+  }
 
--- a test more
-pub next : {n : ℕ} {tests : List Test} {entries after : List Finding} {count one more : ℕ} {e : Finding} (fires : Bool) (entry : Finding)
-    → Stored n tests entries count → length tests < n
-    → e ≡ stored (finds fires entry) → after ≡ set entries count e → one ≡ cond fires 1 0 → more ≡ count + one
-    → Stored n (tests ++ finds fires entry ∷ []) after more
-next {n} {tests} {entries} {after} {count} {one} {more} {e} fires entry s room is-e is_after is_one is-more = record {
-  are =
-      is_after ∙ rw (is-e, s.are, s.many)
-      (store n (found tests) (omega (arith, s.many, s.few)) (finds fires entry) ∙ ap (filled n) (sym (found_append tests (finds fires entry))));
-  many =
-      is-more ∙ rw (is_one, s.many, found_append tests (finds fires entry), length-append (found tests) (found (finds fires entry ∷ [])), count_one fires entry);
-  few = omega (arith, is-more, is_one, one_at_most fires, s.few, length-append tests (finds fires entry ∷ []));
-}
+  -- where there are not more tests than entries
+  all : {n : ℕ} {findings : List F} (tests : List (Test F)) → Stored n tests findings → length tests ≤ n → findings ≡ found tests
+  all {n} tests s room = s.are ∙ take_all n (found tests) (omega (arith, few tests))
 
 -- what a validator answers where its tests are these and P is its promise of validity
-module _ (link : LinkType) (size minimum : ℕ) (error_tests warning_tests : List Test) (P : Bool → Type 0)
+module _ (link : Option LinkType) (size minimum : ℕ) (error_tests : List (Test ValidationError)) (warning_tests : List (Test ValidationWarning)) (P : Bool → Type 0)
     (promised : P (eqb (length (errors_of minimum size error_tests)) 0)) where
   abbrev Answer : ValidationResult → Type 0
-  Answer r = (r ≡ validation_result link size (errors_of minimum size error_tests) (warnings_of minimum size warning_tests)) × P r.is_valid
+  Answer r = (r ≡ validation_result link size (errors_of minimum size error_tests) (warnings_of minimum size warning_tests)) × P (is_valid r)
 
   answer : {r : ValidationResult} → r ≡ validation_result link size (errors_of minimum size error_tests) (warnings_of minimum size warning_tests) → Answer r
-  unfolding validation_result
   answer e = (e, rw e promised)
 
   -- too short: that alone
-  pub short_answer : {r : ValidationResult} → size < minimum → r ≡ validation_result link size (frame_too_short size minimum ∷ []) [] → Answer r
+  pub short_answer : {r : ValidationResult} → size < minimum → r ≡ validation_result link size (FrameTooShort size minimum ∷ []) [] → Answer r
   unfolding errors_of warnings_of
   short_answer less is-r = answer (is-r ∙ rw (lt-ltb size minimum less))
 
-  -- long enough: what the tests store
-  pub stored_answer : {errors warnings : List Finding} {n w : ℕ} {r : ValidationResult} → minimum ≤ size
-      → Stored 7 error_tests errors n → Stored 2 warning_tests warnings w
-      → r ≡ (record {
-        is_valid = eqb n 0;
-        link_type = link;
-        frame_size = size;
-        errors = errors;
-        error_count = n;
-        warnings = warnings;
-        warning_count = w;
-      })
-      → Answer r
-  unfolding validation_result errors_of warnings_of
-  stored_answer long e v is-r = answer (is-r ∙ rw (le-ltb size minimum long, e.are, e.many, v.are, v.many))
+  -- long enough: the findings of the tests
+  pub stored_answer : {errors : List ValidationError} {warnings : List ValidationWarning} {r : ValidationResult} → minimum ≤ size
+      → Stored 7 error_tests errors → length error_tests ≤ 7 → Stored 2 warning_tests warnings → length warning_tests ≤ 2
+      → r ≡ validation_result link size errors warnings → Answer r
+  unfolding errors_of warnings_of
+  stored_answer long e few_errors w few_warnings is-r =
+      answer (is-r ∙ rw (le-ltb size minimum long, all error_tests e few_errors, all warning_tests w few_warnings))

@@ -1,3 +1,5 @@
-pub mod Finding
+pub mod Entries
+pub mod Error
 pub mod Link
 pub mod Result
+pub mod Warning

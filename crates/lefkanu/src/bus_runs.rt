@@ -3,11 +3,11 @@ ghost use Rattle.std.specs.Prelude.{◌≡◌};
 ghost use Rattle.run_finder.specs.Find.{find};
 ghost use Rattle.run_reading.specs.Answer.{count_answer, read_answer, read_output};
 ghost use Rattle.numbers.specs.Named.{under_rule};
-ghost use Rattle.octets.specs.Answer.{count_number, count_or};
-ghost use Rattle.answers.specs.Told.{no_case, found_number, found_report};
+ghost use Rattle.run_search.specs.Search.{report_numbers};
+ghost use Rattle.octets.specs.Answer.{answer_number};
+ghost use Rattle.answers.specs.Told.{no_case, count_or, found_number, made_of_found};
 
 use answers::NO_CASE;
-use numbers::LAST_RULE;
 
 // The first acceptable frame of a run that starts at a place or later: its place and octet count, into `report`.
 #[unsafe(no_mangle)]
@@ -19,31 +19,25 @@ pub extern "C" fn lefkanu_find_frame(
 ) -> u8
     ensures value { result ≡ under_rule rule (λ rule. found_number (find rule run.now place)) no_case }
     ensures report { report.new
-        ≡ under_rule rule (λ rule. found_report report.old (find rule run.now place)) report.old }
+        ≡ under_rule rule (λ rule. made_of_found report_numbers report.old (find rule run.now place)) report.old }
 {
-    if LAST_RULE < rule {
+    let Some(rule) = numbers::rule_of(rule) else {
         return NO_CASE;
-    }
-    answers::tell_found(
-        run_finder::find_frame(numbers::rule_of(rule), run, place),
-        report,
-    )
+    };
+    answers::tell_found(run_finder::find_frame(rule, run, place), report)
 }
 
 // How many frames a whole reading of a run finds, into `count`.
 #[unsafe(no_mangle)]
 pub extern "C" fn lefkanu_count_frames(rule: u8, run: &[u8], count: &mut usize) -> u8
-    ensures value { result ≡ under_rule rule (λ rule. count_number (count_answer rule run.now)) no_case }
+    ensures value { result ≡ under_rule rule (λ rule. answer_number (count_answer rule run.now)) no_case }
     ensures count { count.new
         ≡ under_rule rule (λ rule. count_or count.old (count_answer rule run.now)) count.old }
 {
-    if LAST_RULE < rule {
+    let Some(rule) = numbers::rule_of(rule) else {
         return NO_CASE;
-    }
-    answers::tell_count(
-        run_reading::count_frames(numbers::rule_of(rule), run),
-        count,
-    )
+    };
+    answers::tell(run_reading::count_frames(rule, run), count)
 }
 
 // The whole reading of a run: place and octet count of each frame at the front of `out`, whose rest stays, and the count
@@ -55,16 +49,15 @@ pub extern "C" fn lefkanu_read_frames(
     out: &mut [u32],
     count: &mut usize,
 ) -> u8
-    ensures value { result ≡ under_rule rule (λ rule. count_number (read_answer rule run.now out.old)) no_case }
+    ensures value { result ≡ under_rule rule (λ rule. answer_number (read_answer rule run.now out.old)) no_case }
     ensures output { out.new
         ≡ under_rule rule (λ rule. read_output rule run.now out.old) out.old }
     ensures count { count.new
         ≡ under_rule rule (λ rule. count_or count.old (read_answer rule run.now out.old))
         count.old }
 {
-    if LAST_RULE < rule {
+    let Some(rule) = numbers::rule_of(rule) else {
         return NO_CASE;
-    }
-    let answer = run_reading::read_frames(numbers::rule_of(rule), run, out);
-    answers::tell_count(answer, count)
+    };
+    answers::tell(run_reading::read_frames(rule, run, out), count)
 }

@@ -4,19 +4,20 @@ ghost use Rattle.bip_header.specs.Header.{decode, encode_answer, encode_output};
 ghost use Rattle.bip_message.specs.Message.{process};
 ghost use Rattle.answers.specs.Parts.{NpduNamed};
 ghost use Rattle.numbers.specs.Named.{of_function};
-ghost use Rattle.octets.specs.Answer.{count_number, count_or};
-ghost use Rattle.answers.specs.Told.{no_case, bvlc_number, bvlc_header, message_number, message_carried};
+ghost use Rattle.numbers.specs.Layout.{bvlc_numbers};
+ghost use Rattle.octets.specs.Answer.{answer_number, made_of};
+ghost use Rattle.answers.specs.Told.{no_case, count_or, carried_numbers};
 
 use answers::NO_CASE;
-use bip_header::{BvlcFunction, FunctionRead};
+use bip_header::BvlcFunction;
 
 // Reads the header in front of a message, into `header`.
 #[unsafe(no_mangle)]
 pub extern "C" fn lefkanu_bvlc_decode(message: &[u8], header: &mut [usize; 2]) -> u8
-    ensures value { result ≡ bvlc_number (decode message.now) }
-    ensures header { header.new ≡ bvlc_header header.old (decode message.now) }
+    ensures value { result ≡ answer_number (decode message.now) }
+    ensures header { header.new ≡ made_of bvlc_numbers header.old (decode message.now) }
 {
-    answers::tell_bvlc(bip_header::decode(message), header)
+    answers::tell(bip_header::decode(message), header)
 }
 
 // Writes a header at the front of `out`, whose rest stays, and its octet count into `count`.
@@ -27,28 +28,26 @@ pub extern "C" fn lefkanu_bvlc_encode(
     out: &mut [u8],
     count: &mut usize,
 ) -> u8
-    ensures value { result ≡ of_function function (λ known. count_number (encode_answer known length out.old)) no_case }
+    ensures value { result ≡ of_function function (λ known. answer_number (encode_answer known length out.old)) no_case }
     ensures output { out.new
         ≡ of_function function (λ known. encode_output known length out.old) out.old }
     ensures count { count.new
         ≡ of_function function (λ known. count_or count.old (encode_answer known length out.old))
         count.old }
 {
-    match BvlcFunction::try_from(function) {
-        FunctionRead::Known(known) => {
-            let answer = bip_header::encode(known, length, out);
-            answers::tell_count(answer, count)
-        }
-        FunctionRead::Unknown => NO_CASE,
-    }
+    let Ok(function) = BvlcFunction::try_from(function) else {
+        return NO_CASE;
+    };
+    answers::tell(bip_header::encode(function, length, out), count)
 }
 
 // What a message carries, into `carried`; the part of the message that the last two numbers of an NPDU name is the NPDU.
+#[tactic(auto, using(crate::proofs::Parts::npdu_named))]
 #[unsafe(no_mangle)]
 pub extern "C" fn lefkanu_process_bvlc_message(message: &[u8], carried: &mut [usize; 3]) -> u8
-    ensures value { result ≡ message_number (process message.now) }
+    ensures value { result ≡ answer_number (process message.now) }
     ensures carried { carried.new
-        ≡ message_carried (length message.now) carried.old (process message.now) }
+        ≡ made_of (carried_numbers (length message.now)) carried.old (process message.now) }
     ensures part { NpduNamed (process message.now) carried.new message.now }
 {
     answers::tell_message(

@@ -6,7 +6,6 @@ ghost use Rattle.numbers.specs.Named.{under_rule};
 ghost use Rattle.answers.specs.Told.{no_case};
 
 use answers::NO_CASE;
-use numbers::LAST_RULE;
 
 // The header check of the five octets behind the preamble, into `crc`.
 #[unsafe(no_mangle)]
@@ -14,11 +13,10 @@ pub extern "C" fn lefkanu_calculate_header_crc(rule: u8, header: &[u8; 5], crc: 
     ensures value { result ≡ under_rule rule (λ _. 0) no_case }
     ensures crc { crc.new ≡ under_rule rule (λ rule. header_check rule header.now) crc.old }
 {
-    if LAST_RULE < rule {
+    let Some(rule) = numbers::rule_of(rule) else {
         return NO_CASE;
-    }
-    let octets = *header;
-    *crc = crc::calculate_header_crc(numbers::rule_of(rule), octets);
+    };
+    *crc = crc::calculate_header_crc(rule, *header);
     0
 }
 
@@ -29,10 +27,10 @@ pub extern "C" fn lefkanu_crc16_mstp(rule: u8, data: &[u8], crc: &mut u16) -> u8
     ensures crc { crc.new
         ≡ under_rule rule (λ rule. data_check rule «data».now) crc.old }
 {
-    if LAST_RULE < rule {
+    let Some(rule) = numbers::rule_of(rule) else {
         return NO_CASE;
-    }
-    *crc = crc::crc16_mstp(numbers::rule_of(rule), data);
+    };
+    *crc = crc::crc16_mstp(rule, data);
     0
 }
 
@@ -42,10 +40,10 @@ pub extern "C" fn lefkanu_header_table(rule: u8, table: &mut [u8; 256]) -> u8
     ensures value { result ≡ under_rule rule (λ _. 0) no_case }
     ensures table { table.new ≡ under_rule rule (λ rule. table_of (header_constant rule)) table.old }
 {
-    if LAST_RULE < rule {
+    let Some(rule) = numbers::rule_of(rule) else {
         return NO_CASE;
-    }
-    *table = crc::header_table(numbers::rule_of(rule));
+    };
+    *table = crc::header_table(rule);
     0
 }
 
@@ -55,9 +53,9 @@ pub extern "C" fn lefkanu_data_table(rule: u8, table: &mut [u16; 256]) -> u8
     ensures value { result ≡ under_rule rule (λ _. 0) no_case }
     ensures table { table.new ≡ under_rule rule (λ rule. table_of (data_constant rule)) table.old }
 {
-    if LAST_RULE < rule {
+    let Some(rule) = numbers::rule_of(rule) else {
         return NO_CASE;
-    }
-    *table = crc::data_table(numbers::rule_of(rule));
+    };
+    *table = crc::data_table(rule);
     0
 }

@@ -1,18 +1,18 @@
 // Ethernet frames: those of form EtherType, and those of the form that a number names.
-ghost use Rattle.std.specs.Prelude.{◌≡◌};
+ghost use Rattle.std.specs.Prelude.{◌≡◌, []};
 ghost use Rattle.ethernet_decode.specs.declared.EthernetForm.TheVariants.{EtherType};
 ghost use Rattle.ethernet_decode.specs.Decode.{decode, payload, validate};
 ghost use Rattle.ethernet_encode.specs.Encode.{encode_answer, encode_output};
 ghost use Rattle.answers.specs.Parts.{part_named};
-ghost use Rattle.numbers.specs.Named.{form_of, in_form};
-ghost use Rattle.octets.specs.Answer.{accept_number, count_number, count_or};
-ghost use Rattle.answers.specs.Told.{no_case, decoded_number, decoded_destination, decoded_source, decoded_payload};
+ghost use Rattle.numbers.specs.Named.{in_form};
+ghost use Rattle.octets.specs.Answer.{answer_number};
+ghost use Rattle.answers.specs.Told.{no_case, count_or, decoded_destination, decoded_source, decoded_payload};
 
 use answers::NO_CASE;
 use ethernet_decode::EthernetForm;
-use numbers::LAST_FORM;
 
 // Reads a frame in form EtherType: both addresses; and place and octet count of its payload, into `payload_part`.
+#[tactic(auto, using(crate::proofs::Parts::payload_named))]
 #[unsafe(no_mangle)]
 pub extern "C" fn lefkanu_ethernet_decode(
     frame: &[u8],
@@ -20,7 +20,7 @@ pub extern "C" fn lefkanu_ethernet_decode(
     src_mac: &mut [u8; 6],
     payload_part: &mut [usize; 2],
 ) -> u8
-    ensures value { result ≡ decoded_number (decode EtherType frame.now) }
+    ensures value { result ≡ answer_number (decode EtherType frame.now) }
     ensures destination { dest_mac.new
         ≡ decoded_destination dest_mac.old (decode EtherType frame.now) }
     ensures source { src_mac.new
@@ -35,6 +35,7 @@ pub extern "C" fn lefkanu_ethernet_decode(
 }
 
 // The same in the form of a number.
+#[tactic(auto, using(crate::proofs::Parts::payload_named))]
 #[unsafe(no_mangle)]
 pub extern "C" fn lefkanu_ethernet_decode_form(
     form: u8,
@@ -43,7 +44,7 @@ pub extern "C" fn lefkanu_ethernet_decode_form(
     src_mac: &mut [u8; 6],
     payload_part: &mut [usize; 2],
 ) -> u8
-    ensures value { result ≡ in_form form (λ form. decoded_number (decode form frame.now)) no_case }
+    ensures value { result ≡ in_form form (λ form. answer_number (decode form frame.now)) no_case }
     ensures destination { dest_mac.new ≡ in_form form
         (λ form. decoded_destination dest_mac.old (decode form frame.now)) dest_mac.old }
     ensures source { src_mac.new ≡ in_form form
@@ -51,21 +52,21 @@ pub extern "C" fn lefkanu_ethernet_decode_form(
     ensures payload { payload_part.new ≡ in_form form
         (λ form. decoded_payload payload_part.old (decode form frame.now)) payload_part.old }
     ensures part { result ≡ 0
-        → part_named 0 payload_part.new frame.now ≡ payload (form_of form) frame.now }
+        → part_named 0 payload_part.new frame.now ≡ in_form form (λ form. payload form frame.now) [] }
 {
-    if LAST_FORM < form {
+    let Some(form) = numbers::form_of(form) else {
         return NO_CASE;
-    }
-    let answer = ethernet_decode::decode(numbers::form_of(form), frame);
+    };
+    let answer = ethernet_decode::decode(form, frame);
     answers::tell_ethernet(answer, dest_mac, src_mac, payload_part)
 }
 
 // Whether octets are a frame of form EtherType that may be sent: the validator of ethernet.rs.
 #[unsafe(no_mangle)]
 pub extern "C" fn lefkanu_ethernet_validate(frame: &[u8]) -> u8
-    ensures { result ≡ accept_number (validate frame.now) }
+    ensures { result ≡ answer_number (validate frame.now) }
 {
-    answers::tell_accepted(ethernet_decode::validate_ethernet_frame(frame))
+    answers::answer_number(&ethernet_decode::validate_ethernet_frame(frame))
 }
 
 // Writes a frame in form EtherType at the front of `out`, whose rest stays, and its octet count into `count`.
@@ -77,17 +78,15 @@ pub extern "C" fn lefkanu_ethernet_encode(
     out: &mut [u8],
     count: &mut usize,
 ) -> u8
-    ensures value { result ≡ count_number
+    ensures value { result ≡ answer_number
         (encode_answer EtherType dest_mac.now src_mac.now body.now out.old) }
     ensures output { out.new
         ≡ encode_output EtherType dest_mac.now src_mac.now body.now out.old }
     ensures count { count.new ≡ count_or count.old
         (encode_answer EtherType dest_mac.now src_mac.now body.now out.old) }
 {
-    let destination = *dest_mac;
-    let source = *src_mac;
-    let answer = ethernet_encode::encode(EthernetForm::EtherType, destination, source, body, out);
-    answers::tell_count(answer, count)
+    let answer = ethernet_encode::encode(EthernetForm::EtherType, *dest_mac, *src_mac, body, out);
+    answers::tell(answer, count)
 }
 
 // The same in the form of a number.
@@ -100,7 +99,7 @@ pub extern "C" fn lefkanu_ethernet_encode_form(
     out: &mut [u8],
     count: &mut usize,
 ) -> u8
-    ensures value { result ≡ in_form form (λ form. count_number
+    ensures value { result ≡ in_form form (λ form. answer_number
         (encode_answer form dest_mac.now src_mac.now body.now out.old))
         no_case }
     ensures output { out.new ≡ in_form form (λ form.
@@ -110,11 +109,9 @@ pub extern "C" fn lefkanu_ethernet_encode_form(
         (encode_answer form dest_mac.now src_mac.now body.now out.old))
         count.old }
 {
-    if LAST_FORM < form {
+    let Some(form) = numbers::form_of(form) else {
         return NO_CASE;
-    }
-    let destination = *dest_mac;
-    let source = *src_mac;
-    let answer = ethernet_encode::encode(numbers::form_of(form), destination, source, body, out);
-    answers::tell_count(answer, count)
+    };
+    let answer = ethernet_encode::encode(form, *dest_mac, *src_mac, body, out);
+    answers::tell(answer, count)
 }

@@ -4,12 +4,11 @@ ghost use Rattle.statistics.specs.Statistics.{statistics};
 ghost use Rattle.patterns.specs.Detect.{patterns_answer, patterns_output};
 ghost use Rattle.analysis.specs.Analysis.{analysis};
 ghost use Rattle.numbers.specs.Named.{under_rule};
-ghost use Rattle.octets.specs.Answer.{count_number, count_or};
-ghost use Rattle.answers.specs.Told.{no_case, statistics_number, statistics_distribution, statistics_counts, analysis_number};
+ghost use Rattle.octets.specs.Answer.{answer_number};
+ghost use Rattle.answers.specs.Told.{no_case, count_or, statistics_distribution, statistics_counts};
 ghost use Rattle.answers.specs.Told.{analysis_count, analysis_result, analysis_distribution, analysis_counts};
 
 use answers::NO_CASE;
-use numbers::LAST_RULE;
 
 // How many octets have each value; and zeros, octets of 80 or more and the longest run, into `counts`.
 #[unsafe(no_mangle)]
@@ -18,25 +17,27 @@ pub extern "C" fn lefkanu_calculate_frame_statistics(
     byte_distribution: &mut [u32; 256],
     counts: &mut [usize; 5],
 ) -> u8
-    ensures value { result ≡ statistics_number (statistics frame.now) }
+    ensures value { result ≡ answer_number (statistics frame.now) }
     ensures distribution { byte_distribution.new
         ≡ statistics_distribution byte_distribution.old (statistics frame.now) }
     ensures counts { counts.new ≡ statistics_counts counts.old (statistics frame.now) }
 {
-    let answer = statistics::calculate_frame_statistics(frame);
-    answers::tell_statistics(answer, byte_distribution, counts)
+    answers::tell_statistics(
+        statistics::calculate_frame_statistics(frame),
+        byte_distribution,
+        counts,
+    )
 }
 
 // The patterns at the front of `out`, whose rest stays, four numbers each, and how many there are into `count`.
 #[unsafe(no_mangle)]
 pub extern "C" fn lefkanu_detect_patterns(frame: &[u8], out: &mut [u32], count: &mut usize) -> u8
-    ensures value { result ≡ count_number (patterns_answer frame.now out.old) }
+    ensures value { result ≡ answer_number (patterns_answer frame.now out.old) }
     ensures output { out.new ≡ patterns_output frame.now out.old }
     ensures count { count.new
         ≡ count_or count.old (patterns_answer frame.now out.old) }
 {
-    let answer = patterns::detect_patterns(frame, out);
-    answers::tell_count(answer, count)
+    answers::tell(patterns::detect_patterns(frame, out), count)
 }
 
 // Validation, statistics and patterns together.
@@ -50,7 +51,7 @@ pub extern "C" fn lefkanu_analyze_frame(
     out: &mut [u32],
     count: &mut usize,
 ) -> u8
-    ensures value { result ≡ under_rule rule (λ rule. analysis_number (analysis rule frame.now out.old)) no_case }
+    ensures value { result ≡ under_rule rule (λ rule. answer_number (analysis rule frame.now out.old)) no_case }
     ensures res { res.new
         ≡ under_rule rule (λ rule. analysis_result res.old (analysis rule frame.now out.old))
         res.old }
@@ -67,9 +68,9 @@ pub extern "C" fn lefkanu_analyze_frame(
         ≡ under_rule rule (λ rule. analysis_count count.old (analysis rule frame.now out.old))
         count.old }
 {
-    if LAST_RULE < rule {
+    let Some(rule) = numbers::rule_of(rule) else {
         return NO_CASE;
-    }
-    let answer = analysis::analyze_frame(numbers::rule_of(rule), frame, out);
+    };
+    let answer = analysis::analyze_frame(rule, frame, out);
     answers::tell_analysis(answer, res, byte_distribution, counts, count)
 }

@@ -2,7 +2,7 @@
 // function answers 0 where there is a result, and then it stands in the lent memory; else the number of the question that
 // fails, FE for "none" and "start reached", or FF where a number names no rule, type or function, or numbers no state, and
 // writes nothing. The version of the layout is answered as it is. `numbers` has the layout of results, `answers` how
-// answers are told.
+// answers are told. Functions that are alike stay apart, and so do parameters that come together: C names and passes each.
 #![tactic(auto)]
 
 mod bus_runs;

@@ -1,17 +1,16 @@
 // MS/TP frames, and the Rust's errors.
-ghost use Rattle.std.specs.Prelude.{◌≡◌};
+ghost use Rattle.std.specs.Prelude.{◌≡◌, []};
 ghost use Rattle.datalink.specs.Error.{error_of};
 ghost use Rattle.mstp_decode.specs.Decode.{decode, frame_data};
 ghost use Rattle.mstp_encode.specs.Encode.{encode_answer, encode_output};
 ghost use Rattle.answers.specs.Parts.{part_named};
-ghost use Rattle.numbers.specs.Layout.{error_number};
-ghost use Rattle.numbers.specs.Named.{rule_of, under_rule, of_type};
-ghost use Rattle.octets.specs.Answer.{count_number, count_or};
-ghost use Rattle.answers.specs.Told.{no_case, mstp_number, mstp_header};
+ghost use Rattle.numbers.specs.Layout.{error_number, header_numbers};
+ghost use Rattle.numbers.specs.Named.{under_rule, of_type};
+ghost use Rattle.octets.specs.Answer.{answer_number, made_of};
+ghost use Rattle.answers.specs.Told.{no_case, count_or};
 
 use answers::NO_CASE;
-use mstp_frame::{FrameTypeRead, MstpFrameType};
-use numbers::LAST_RULE;
+use mstp_frame::MstpFrameType;
 
 // The Rust's error for a question: 1 `InvalidFrame`, 2 `CrcError`, 0 where it does not ask the question.
 #[unsafe(no_mangle)]
@@ -22,18 +21,19 @@ pub extern "C" fn lefkanu_data_link_error(question: u8) -> u8
 }
 
 // Reads a frame: its header into `header`, whose last two numbers name the part of the frame that is its data.
+#[tactic(auto, using(crate::proofs::Parts::data_named))]
 #[unsafe(no_mangle)]
 pub extern "C" fn lefkanu_mstp_decode(rule: u8, frame: &[u8], header: &mut [usize; 8]) -> u8
-    ensures value { result ≡ under_rule rule (λ rule. mstp_number (decode rule frame.now)) no_case }
+    ensures value { result ≡ under_rule rule (λ rule. answer_number (decode rule frame.now)) no_case }
     ensures header { header.new
-        ≡ under_rule rule (λ rule. mstp_header header.old (decode rule frame.now)) header.old }
+        ≡ under_rule rule (λ rule. made_of header_numbers header.old (decode rule frame.now)) header.old }
     ensures part { result ≡ 0
-        → part_named 6 header.new frame.now ≡ frame_data (rule_of rule) frame.now }
+        → part_named 6 header.new frame.now ≡ under_rule rule (λ rule. frame_data rule frame.now) [] }
 {
-    if LAST_RULE < rule {
+    let Some(rule) = numbers::rule_of(rule) else {
         return NO_CASE;
-    }
-    answers::tell_mstp(mstp_decode::decode(numbers::rule_of(rule), frame), header)
+    };
+    answers::tell(mstp_decode::decode(rule, frame), header)
 }
 
 // Writes a frame at the front of `out`, whose rest stays, and its octet count into `count`.
@@ -49,7 +49,7 @@ pub extern "C" fn lefkanu_mstp_encode(
 ) -> u8
     ensures value { result ≡ under_rule rule
         (λ rule. of_type frame_type
-        (λ type. count_number (encode_answer rule type destination source body.now out.old))
+        (λ type. answer_number (encode_answer rule type destination source body.now out.old))
         no_case)
         no_case }
     ensures output { out.new ≡ under_rule rule
@@ -64,21 +64,12 @@ pub extern "C" fn lefkanu_mstp_encode(
         count.old)
         count.old }
 {
-    if LAST_RULE < rule {
+    let Some(rule) = numbers::rule_of(rule) else {
         return NO_CASE;
-    }
-    match MstpFrameType::from_u8(frame_type) {
-        FrameTypeRead::Known(known) => {
-            let answer = mstp_encode::encode(
-                numbers::rule_of(rule),
-                known,
-                destination,
-                source,
-                body,
-                out,
-            );
-            answers::tell_count(answer, count)
-        }
-        FrameTypeRead::Unknown => NO_CASE,
-    }
+    };
+    let Some(frame_type) = MstpFrameType::from_u8(frame_type) else {
+        return NO_CASE;
+    };
+    let answer = mstp_encode::encode(rule, frame_type, destination, source, body, out);
+    answers::tell(answer, count)
 }

@@ -11,66 +11,67 @@ ghost use Rattle.answers.specs.Told.{no_case};
 
 use answers::NO_CASE;
 use findings::LinkType;
-use numbers::LAST_RULE;
 
 // Checks an MS/TP frame.
+#[tactic(auto, using(validation_mstp::proofs::NoFindings::clean_frame))]
 #[unsafe(no_mangle)]
 pub extern "C" fn lefkanu_validate_mstp_frame(rule: u8, frame: &[u8], res: &mut [usize; 32]) -> u8
     ensures value { result ≡ under_rule rule (λ _. 0) no_case }
     ensures res { res.new
         ≡ under_rule rule (λ rule. result_numbers (mstp_result rule frame.now)) res.old }
 {
-    if LAST_RULE < rule {
+    let Some(rule) = numbers::rule_of(rule) else {
         return NO_CASE;
-    }
-    let named = numbers::rule_of(rule);
-    if validation_mstp::faultless(named, frame) {
-        *res = result_numbers::clean_numbers(LinkType::MsTP, frame.len());
+    };
+    if validation_mstp::faultless(rule, frame) {
+        *res = result_numbers::clean_numbers(Some(LinkType::MsTP), frame.len());
         return 0;
     }
-    *res = result_numbers::result_numbers(validation_mstp::validate_mstp_frame(named, frame));
+    *res = result_numbers::result_numbers(validation_mstp::validate_mstp_frame(rule, frame));
     0
 }
 
 // Checks a BACnet/IP message.
+#[tactic(auto, using(validation_ip::proofs::NoFindings::clean_message))]
 #[unsafe(no_mangle)]
 pub extern "C" fn lefkanu_validate_bacnet_ip_frame(message: &[u8], res: &mut [usize; 32])
     ensures { res.new ≡ result_numbers (ip_result message.now) }
 {
     if validation_ip::faultless(message) {
-        *res = result_numbers::clean_numbers(LinkType::BacnetIp, message.len());
+        *res = result_numbers::clean_numbers(Some(LinkType::BacnetIp), message.len());
         return;
     }
     *res = result_numbers::result_numbers(validation_ip::validate_bacnet_ip_frame(message));
 }
 
 // Checks an Ethernet frame.
+#[tactic(auto, using(validation_ethernet::proofs::NoFindings::clean_frame))]
 #[unsafe(no_mangle)]
 pub extern "C" fn lefkanu_validate_ethernet_frame(frame: &[u8], res: &mut [usize; 32])
     ensures { res.new ≡ result_numbers (ethernet_result frame.now) }
 {
     if validation_ethernet::faultless(frame) {
-        *res = result_numbers::clean_numbers(LinkType::Ethernet, frame.len());
+        *res = result_numbers::clean_numbers(Some(LinkType::Ethernet), frame.len());
         return;
     }
     *res = result_numbers::result_numbers(validation_ethernet::validate_ethernet_frame(frame));
 }
 
 // Checks a frame by the validator of the link that its octets tell.
+#[tactic(auto, using(validation::proofs::Links::clean_frame))]
 #[unsafe(no_mangle)]
 pub extern "C" fn lefkanu_validate_frame(rule: u8, frame: &[u8], res: &mut [usize; 32]) -> u8
     ensures value { result ≡ under_rule rule (λ _. 0) no_case }
     ensures res { res.new
         ≡ under_rule rule (λ rule. result_numbers (frame_result rule frame.now)) res.old }
 {
-    if LAST_RULE < rule {
+    let Some(rule) = numbers::rule_of(rule) else {
         return NO_CASE;
-    }
-    let named = numbers::rule_of(rule);
-    if validation::faultless(named, frame) {
+    };
+    if validation::faultless(rule, frame) {
         *res = result_numbers::clean_numbers(validation::link_of(frame), frame.len());
         return 0;
     }
-    *res = result_numbers::result_numbers(validation::validate_frame(named, frame));
+    *res = result_numbers::result_numbers(validation::validate_frame(rule, frame));
     0
 }

@@ -1,17 +1,15 @@
 -- Appending a record: questions 47, 42, 43 and 46, the answer and the lent buffer.
 -- Assumes nothing.
-use Rattle.std.specs.Prelude.{ℕ, ◌+◌, ◌-◌, ◌≡◌, List, [], ◌∷◌, ◌++◌, leb, length, take}
-use Rattle.octets.specs.Question.{Question, ask, first_no, answered}
-use Rattle.octets.specs.Answer.{WhereCounted}
+use Rattle.std.specs.Prelude.{ℕ, ◌+◌, ◌-◌, ◌≡◌, List, [], ◌∷◌, ◌++◌, leb, length, take, Option, Some, Result, Ok, IfOk}
+use Rattle.octets.specs.Question.{Question, ask, first_no}
 use Rattle.octets.specs.Output.{write_output}
-use Rattle.log_record.specs.Record.{known_kind, allowed_size, record_octets}
+use Rattle.octets.specs.Refusal.{result_of}
+use Rattle.log_record.specs.Kind.{known_kind}
+use Rattle.log_record.specs.Record.{allowed_size, record_octets}
 use Rattle.log_record.specs.Read.{log_record, read_record, payload_of}
-use Rattle.octets.specs.declared.CountResult.{CountResult}
-use Rattle.octets.specs.declared.CountResult.TheVariants.{Count, Refused}
-use Rattle.log_record.specs.declared.RecordRead.TheVariants.{Record}
-use Rattle.log_record.specs.declared.RecordTime.{RecordTime}
+use Rattle.octets.specs.declared.refusal.Refusal.{Refusal}
 
-module _ (buffer : List ℕ) (used kind : ℕ) (time : RecordTime) (payload : List ℕ) where
+module _ (buffer : List ℕ) (used kind : ℕ) (time : Option ℕ) (payload : List ℕ) where
   -- the log afterwards: its used octets, then the record
   abbrev pub longer : List ℕ
   longer = take used buffer ++ record_octets kind time payload
@@ -30,8 +28,8 @@ module _ (buffer : List ℕ) (used kind : ℕ) (time : RecordTime) (payload : Li
   append_question = first_no append_questions
 
   -- what appending answers: the new used count, or the question
-  unfoldable pub append_answer : CountResult
-  append_answer = answered Refused append_question (Count (used + length (record_octets kind time payload)))
+  unfoldable pub append_answer : Result ℕ Refusal
+  append_answer = result_of append_question (used + length (record_octets kind time payload))
 
   -- the buffer afterwards: the longer log at its front, or as it was
   unfoldable pub append_output : List ℕ
@@ -40,10 +38,10 @@ module _ (buffer : List ℕ) (used kind : ℕ) (time : RecordTime) (payload : Li
   -- reading from a new used count gives the record and its octets, and from the old count, or any k octets before it, what it
   -- gave before
   pub record GivesBack (after : List ℕ) (n : ℕ) : Type 0 where
-    pub read : read_record after n ≡ Record (log_record kind time used (length payload))
+    pub read : read_record after n ≡ Ok (Some (log_record kind time used (length payload)))
     pub octets : payload_of after (read_record after n) ≡ payload
     pub before : (k : ℕ) → read_record after (used - k) ≡ read_record buffer (used - k)
 
   -- so it is where the answer is a used count
-  abbrev pub ReadsBack : List ℕ → CountResult → Type 0
-  ReadsBack after answer = WhereCounted answer (λ n. GivesBack after n)
+  abbrev pub ReadsBack : List ℕ → Result ℕ Refusal → Type 0
+  ReadsBack after answer = IfOk answer (λ n. GivesBack after n)

@@ -7,13 +7,19 @@ ghost use Rattle.log_input.specs.Listed.{PrintedOf, ListedOf, ListedInput};
 
 use input::InputRead;
 use log_listing::{MAX_LOG, MAX_TEXT};
+use std::io;
 use std::io::Read;
 
-// What came of it: so many octets were read and their text is printed, so many octets of text; the log can't be read,
-// and nothing is printed; or the text can't be written.
+// How many octets were read, whose text is printed, and how many octets of text.
 #[derive(Clone, Copy)]
-pub enum InputListed {
-    Printed(usize, usize),
+pub struct Listed {
+    pub read: usize,
+    pub printed: usize,
+}
+
+// Why there is no listing: the log can't be read, and nothing is printed; or the text can't be written.
+#[derive(Clone, Copy)]
+pub enum ListError {
     NotRead,
     NotWritten,
 }
@@ -36,32 +42,43 @@ fn text_space() -> [u8; MAX_TEXT]
 }
 
 // Prints the text of a log.
-fn print<P: Print>(to: &P, log: &[u8]) -> InputListed
+fn print<P: Print>(to: &P, log: &[u8]) -> Result<Listed, ListError>
     ensures { PrintedOf log.now result }
 {
     let mut text = text_space();
     let n = log_listing::list_log(log, &mut text);
-    if to.write_all(&text[..n]).is_ok() {
-        return InputListed::Printed(log.len(), n);
+    match to.write_all(&text[..n]) {
+        Ok(()) => Ok(Listed {
+            read: log.len(),
+            printed: n,
+        }),
+        Err(_) => Err(ListError::NotWritten),
     }
-    InputListed::NotWritten
 }
 
 // Prints the text of what reading counted: all of the room where it is full, the octets at its front where the input ended.
-fn list_read<P: Print>(to: &P, read: InputRead, room: &[u8]) -> InputListed
+fn list_read<P: Print>(
+    to: &P,
+    read: io::Result<InputRead>,
+    room: &[u8],
+) -> Result<Listed, ListError>
     requires { Reads read (length room.now) }
     ensures { ListedOf read room.now result }
 {
     match read {
-        InputRead::Full(_) => print(to, room),
-        InputRead::Ended(n) => print(to, &room[..n]),
-        InputRead::Failed => InputListed::NotRead,
+        Ok(InputRead::Full(_)) => print(to, room),
+        Ok(InputRead::Ended(n)) => print(to, &room[..n]),
+        Err(_) => Err(ListError::NotRead),
     }
 }
 
 // Lists the log that a reader has, asking for at most `piece` octets at a time. Which octets come, how many, and whether a
 // read or write fails is free: no contract can say it. What is printed is the text of as many octets as the answer says.
-pub fn list_input<P: Print, R: Read>(to: &P, from: &mut R, piece: usize) -> InputListed
+pub fn list_input<P: Print, R: Read>(
+    to: &P,
+    from: &mut R,
+    piece: usize,
+) -> Result<Listed, ListError>
     ensures { ListedInput result }
 {
     let mut log = space();

@@ -9,30 +9,21 @@ use borrow.Author.Tests.{le-leb}
 use mir.Val.{bool_byte}
 use lib.Dec.{eqb}
 use lib.ListN.{length, length-append}
+use Rattle.std.specs.Prelude.{Option, Some, None, Result, Ok}
 use Rattle.octets.proofs.Parts.{Octets}
 use Rattle.crc.specs.declared.CheckRule.TheVariants.{AnnexG}
-use Rattle.octets.specs.declared.CountResult.{CountResult}
-use Rattle.octets.specs.declared.CountResult.TheVariants.{Count, Refused}
+use Rattle.octets.specs.declared.refusal.Refusal.{Refusal}
 use Rattle.run_finder.specs.Reading.{reading}
 use Rattle.run_reading.specs.Answer.{Counted}
 use Rattle.run_finder.proofs.Pass.{few_reports}
 use Rattle.log_record.specs.Record.{time_octets}
-use Rattle.log_record.specs.declared.RecordTime.{RecordTime}
-use Rattle.log_record.specs.declared.RecordTime.TheVariants.{Second, None}
 use Rattle.log_listing.specs.Listing.{valid, frames, time_field, line, record_line}
 use Rattle.text.specs.Text.{field}
 use Rattle.text.proofs.Decimals.{length_field}
 
 -- counting the frames of so few octets is not refused
-module _ (payload : List ℕ) (few : length payload ≤ 1514) {answer : CountResult} (covered : Counted AnnexG payload answer) where
-  counted : answer ≡ Count (length (reading AnnexG payload))
-  counted = covered (le-leb (length payload) 65535 (omega arith))
-
-  pub same_count : {n : ℕ} → answer ≡ Count n → n ≡ length (reading AnnexG payload)
-  same_count same = let all = counted in cc
-
-  pub no_refusal : {A : Type 0} {q : ℕ} → answer ≡ Refused q → A
-  no_refusal same = let all = counted in let z : ◌≡◌ {A = ℕ} 0 1 = cc in absurd (omega arith)
+pub counted : (payload : List ℕ) {answer : Result ℕ Refusal} → length payload ≤ 1514 → Counted AnnexG payload answer → answer ≡ Ok (length (reading AnnexG payload))
+counted payload few covered = covered (le-leb (length payload) 65535 (omega arith))
 
 -- there are no more frames than octets
 frames_most : (kind : ℕ) (payload : List ℕ) → Octets payload → length payload ≤ 1514 → frames kind payload ≤ length payload
@@ -44,23 +35,23 @@ frames_most kind payload octets few = by (eqb kind 1)
     by false = omega arith
 
 -- a second of at most ten digits
-abbrev pub TenDigits : RecordTime → Type 0
-TenDigits (Second s) = s < 10 ^ 10
+abbrev pub TenDigits : Option ℕ → Type 0
+TenDigits (Some s) = s < 10 ^ 10
 TenDigits None = Unit {0}
 
 -- the field of a time: every second's is its number
-second_field : (s : ℕ) → time_field (Second s) ≡ field s
+second_field : (s : ℕ) → time_field (Some s) ≡ field s
 unfolding time_field
 second_field s = refl
 
 -- it has two octets, and at most nine more for the four of a second
-time_most : (time : RecordTime) → TenDigits time → length (time_field time) ≤ 2 + 3 * length (time_octets time)
+time_most : (time : Option ℕ) → TenDigits time → length (time_field time) ≤ 2 + 3 * length (time_octets time)
 unfolding time_field time_octets
-time_most (Second s) few = omega (arith, length_field 9 s few, ap length (second_field s))
+time_most (Some s) few = omega (arith, length_field 9 s few, ap length (second_field s))
 time_most None few = omega arith
 
 -- so a record's line has at most 23 octets, and nine more with a time
-pub line_most : (kind : ℕ) (time : RecordTime) (payload : List ℕ) → Octets payload → kind ≤ 3 → TenDigits time → length payload ≤ 1514
+pub line_most : (kind : ℕ) (time : Option ℕ) (payload : List ℕ) → Octets payload → kind ≤ 3 → TenDigits time → length payload ≤ 1514
     → length (record_line kind time payload) ≤ 23 + 3 * length (time_octets time)
 unfolding line record_line
 line_most kind time payload octets known ten few =
@@ -79,12 +70,12 @@ line_most kind time payload octets known ten few =
     bit false = omega arith
 
 -- the line of the numbers that the code finds
-pub line_is : (kind : ℕ) (time : RecordTime) (payload : List ℕ) {b : Bool} {f : ℕ} → b ≡ valid kind payload → f ≡ frames kind payload
-    → line kind (length payload) (bool_byte b) f time ≡ record_line kind time payload
+pub line_is : (kind : ℕ) (time : Option ℕ) (payload : List ℕ) {k v f : ℕ} {b : Bool}
+    → k ≡ kind → b ≡ valid kind payload → v ≡ bool_byte b → f ≡ frames kind payload → line k (length payload) v f time ≡ record_line kind time payload
 unfolding record_line
-line_is kind time payload ev ef =
-    ap₂ (λ (b : Bool) (f : ℕ). line kind (length payload) (bool_byte b) f time) ev ef
-    ∙ ap (λ (v : ℕ). line kind (length payload) v (frames kind payload) time) (bit (valid kind payload))
+line_is kind time payload is-kind is-valid is-byte is-frames =
+    rw (is-kind, is-byte, is-valid, is-frames)
+    (ap (λ (v : ℕ). line kind (length payload) v (frames kind payload) time) (bit (valid kind payload)))
   where
     bit : (b : Bool) → bool_byte b ≡ cond b 1 0
     bit true = refl

@@ -9,8 +9,6 @@ ghost use Rattle.octets.specs.Put.{Put};
 ghost use Rattle.io.specs.Counts.{IsPrefixLen};
 ghost use Rattle.log_listing.specs.Listing.{log_lines, listing, ListsWritten, ListsTorn};
 
-use log_record::RecordRead;
-
 // Most octets of a log that is read.
 pub const MAX_LOG: usize = 65536;
 
@@ -23,21 +21,17 @@ fn put_lines(log: &[u8], out: &mut [u8]) -> usize
     requires { length (log_lines log.now) ≤ length out.old }
     ensures { Put (log_lines log.now) out.old 0 out.new result }
 {
-    let mut end = log.len();
     let mut at: usize = 0;
-    loop {
-        match log_record::read_record(log, end) {
-            RecordRead::Record(record) => {
-                let kind = record.kind;
-                let time = record.time;
-                end = record.start;
+    for record in log_reading::records_back(log, log.len()) {
+        match record {
+            Ok(record) => {
                 let payload = log_record::payload_in(log, record);
-                at = line::put_record_line(kind, time, payload, out, at);
+                at = line::put_record_line(record, payload, out, at);
             }
-            RecordRead::StartReached => return octets::put(b"end\n", out, at),
-            RecordRead::Refused(question) => return line::put_stopped(question, out, at),
+            Err(refusal) => return line::put_stopped(refusal, out, at),
         }
     }
+    octets::put(b"end\n", out, at)
 }
 
 // Writes the text of a log at the front of `out`, whose rest stays, and answers how many octets it has. Of a log that

@@ -1,4 +1,5 @@
 pub mod Reading
+pub mod Back
 pub mod Holds
 pub mod Whole
 pub mod Torn

@@ -9,10 +9,12 @@ use borrow.Author.Tests.{leb-true, leb-false, lt-leb, ne_eqb}
 use lib.Dec.{leb, eqb}
 use lib.ListN.{length, take, drop, length-take, length-drop}
 use lib.Seq.{take-take, take_at, take-add, drop_at, drop-append-le, drop-append-add, length-take-le}
+use Rattle.std.specs.Prelude.{Some, Ok}
+use Rattle.log_record.specs.Kind.{kind_number}
 use Rattle.log_record.specs.Record.{Entry, record_octets}
 use Rattle.log_record.specs.Read.{log_record, read_record, payload_in}
-use Rattle.log_record.specs.declared.RecordRead.TheVariants.{Record}
-use Rattle.log_record.proofs.Read.{at_start, no_trailer}
+use Rattle.log_record.proofs.KindNumbers.{number_back}
+use Rattle.log_record.proofs.Read.{at_start, no_trailer, none_read}
 use Rattle.log_record.proofs.Ends.{read_there, payload_there}
 use Rattle.log_record.proofs.Torn.{torn_there}
 use Rattle.log_reading.specs.Reading.{Back, counted, CountsBack}
@@ -29,8 +31,8 @@ module _ (log : List ℕ) where
       → Back log end [] (answer_behind (eqb end 0) end)
   unfolding answer_behind
   front_read e more zero fits octets taken some = start (sym (at_start log refl))
-  front_read e more (suc zero) fits octets taken some = refused (sym (no_trailer log 1 (omega arith) fits (omega arith)))
-  front_read e more (suc (suc zero)) fits octets taken some = refused (sym (no_trailer log 2 (omega arith) fits (omega arith)))
+  front_read e more (suc zero) fits octets taken some = refused (sym (none_read log 1 (omega arith) fits (no_trailer log 1 (omega arith)) refl))
+  front_read e more (suc (suc zero)) fits octets taken some = refused (sym (none_read log 2 (omega arith) fits (no_trailer log 2 (omega arith)) refl))
   front_read e more (suc (suc (suc n))) fits octets taken some =
       let end = suc (suc (suc n)) in
       rw (ne_eqb end 0 (λ none. omega arith), lt-leb end 2 (omega arith))
@@ -63,7 +65,7 @@ module _ (log : List ℕ) where
         let size : length older ≡ length (log_of es) - lost = length-drop lost (log_of es) in
         let two : take end log ≡ older ++ added = octets ∙ drop-append-le lost (log_of es) added whole in
         let x = log_record e.kind e.time (length (log_of es) - lost) (length e.payload) in
-        let read : read_record log end ≡ Record x
+        let read : read_record log end ≡ Ok (Some x)
         = rw size at (read_there log older e.kind e.time e.payload end fits two taken.0.0 taken.0.1) in
         let payload : payload_in log x ≡ e.payload = rw size at (payload_there log older e.kind e.time e.payload end fits two) in
         let before : take (length (log_of es) - lost) log ≡ older
@@ -73,7 +75,8 @@ module _ (log : List ℕ) where
         let back = on (length (log_of es) - lost) (omega (arith, log_size e es)) (omega arith) before in
         rw (one_more lost e es whole, entry_more lost e es whole, last_same lost e es whole) (
           next read back.0,
-          ap₂ (λ (p : List ℕ) (l : List Entry). record { kind = e.kind; time = e.time; payload = p } ∷ l) payload back.1,
+          ap₂ (λ (p : List ℕ) (l : List Entry). record { kind = kind_number x.kind; time = e.time; payload = p } ∷ l) payload back.1
+              ∙ ap (λ (k : ℕ). record { kind = k; time = e.time; payload = e.payload } ∷ whole_entries lost es) (number_back e.kind taken.0.0),
         )
 
     -- where it is torn, or nothing is left of it

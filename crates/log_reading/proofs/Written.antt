@@ -6,10 +6,10 @@ use Prim.Native.Nat.{ℕ, suc, ◌+◌, ◌-◌}
 use native.Mathlib.Omega.{arith}
 use borrow.Author.Tests.{le-leb}
 use lib.ListN.{length, take}
+use Rattle.std.specs.Prelude.{Ok}
 use Rattle.log_record.specs.Record.{Entry}
 use Rattle.log_record.specs.Read.{payload_in}
 use Rattle.log_record.specs.declared.LogRecord.{LogRecord}
-use Rattle.log_record.specs.declared.RecordRead.TheVariants.{StartReached}
 use Rattle.log_reading.specs.Reading.{Listed, CountsBack}
 use Rattle.log_reading.specs.Written.{Written, records_of, entry_in, ReadsAs, ReadsWritten}
 use Rattle.log_reading.specs.Torn.{starting_from, moved, whole_records, whole_entries, answer_behind, none_torn, last_answer, rest}
@@ -25,9 +25,9 @@ none_lost (x ∷ xs) =
     let same : x.start - 0 ≡ x.start = omega arith in
     rw (le-leb 0 x.start (omega arith), same) (ap (λ (l : List LogRecord). x ∷ l) (none_lost xs))
 
-rest_all : (es : List Entry) → rest 0 es ≡ record { records = records_of es; last = StartReached }
+rest_all : (es : List Entry) → rest 0 es ≡ record { records = records_of es; last = Ok tt }
 unfolding whole_records last_answer answer_behind none_torn
-rest_all es = ap (λ (l : List LogRecord). record { records = l; last = StartReached }) (none_lost (records_of es))
+rest_all es = ap (λ (l : List LogRecord). record { records = l; last = Ok tt }) (none_lost (records_of es))
 
 entries_all : (es : List Entry) → whole_entries 0 es ≡ es
 unfolding whole_entries whole_records starting_from records_of
@@ -36,7 +36,7 @@ entries_all (e ∷ es) = entry_more 0 e es (omega arith) ∙ ap (λ (l : List En
 
 -- all records and their entries are read
 pub reads_all : (log : List ℕ) (end : ℕ) {r : RecordsCounted} → CountsBack log end r → (buffer : List ℕ) (es : List Entry)
-    → Written buffer end es → take end log ≡ take end buffer → ReadsAs log end (record { records = records_of es; last = StartReached }) es r
+    → Written buffer end es → take end log ≡ take end buffer → ReadsAs log end (record { records = records_of es; last = Ok tt }) es r
 reads_all log end {r} counts buffer es w front =
     let none : 0 + end ≡ end = omega arith in
     subst (λ (l : Listed). ReadsAs log end l es r) (rest_all es)
@@ -59,5 +59,5 @@ reads_written log end counts buffer es w front =
     record {
       read = reads.read.read;
       payloads = payloads_of log (records_of es) ∙ ap (map (λ (e : Entry). e.payload)) reads.entries;
-      count = reads.count ∙ ap (λ (n : ℕ). record { count = n; last = StartReached }) (records_as_many es);
+      count = reads.count ∙ ap (λ (n : ℕ). record { count = n; last = Ok tt }) (records_as_many es);
     }

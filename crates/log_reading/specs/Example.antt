@@ -1,21 +1,18 @@
 -- What counts as a written log, and one that was written by four calls of `append`, one of them refused, with its reading.
 -- Assumes nothing.
-use Rattle.std.specs.Prelude.{ℕ, ◌≡◌, List, [], ◌∷◌, map, replicate, take}
-use Rattle.octets.specs.declared.CountResult.{CountResult}
-use Rattle.octets.specs.declared.CountResult.TheVariants.{Count, Refused}
+use Rattle.std.specs.Prelude.{ℕ, ◌≡◌, List, [], ◌∷◌, map, replicate, take, Some, None, Result, Ok, Err}
+use Rattle.octets.specs.declared.refusal.Refusal.{Refusal}
 use Rattle.log_record.specs.Record.{Entry}
 use Rattle.log_record.specs.Read.{log_record, payload_in}
 use Rattle.log_record.specs.declared.LogRecord.{LogRecord}
-use Rattle.log_record.specs.declared.RecordRead.TheVariants.{StartReached}
-use Rattle.log_record.specs.declared.RecordTime.TheVariants.{Second, None}
 use Rattle.log_append.specs.Append.{append_answer, append_output}
 use Rattle.log_reading.specs.Reading.{Back, count_answer}
 use Rattle.log_reading.specs.Written.{Written}
 
 -- what a call with an entry leaves is a written log again: with the entry if the call took it, and else with those before it
-abbrev pub Further : List ℕ → ℕ → List Entry → Entry → CountResult → Type 0
-Further after used es e (Count n) = Written after n (e ∷ es)
-Further after used es e (Refused question) = Written after used es
+abbrev pub Further : List ℕ → ℕ → List Entry → Entry → Result ℕ Refusal → Type 0
+Further after used es e (Ok n) = Written after n (e ∷ es)
+Further after used es e (Err refusal) = Written after used es
 
 -- every buffer that has no used octets counts as written, and so does what any call leaves of one that does
 pub record Writes : Type 0 where
@@ -28,10 +25,10 @@ abbrev pub bus : Entry
 bus = record { kind = 1; time = None; payload = 0x55 ∷ [] }
 
 abbrev pub ip : Entry
-ip = record { kind = 2; time = Second 0; payload = 0x81 ∷ 0x0B ∷ [] }
+ip = record { kind = 2; time = Some 0; payload = 0x81 ∷ 0x0B ∷ [] }
 
 abbrev pub ethernet : Entry
-ethernet = record { kind = 3; time = Second 0xFEDCBA98; payload = 0x00 ∷ 0x10 ∷ 0x20 ∷ [] }
+ethernet = record { kind = 3; time = Some 0xFEDCBA98; payload = 0x00 ∷ 0x10 ∷ 0x20 ∷ [] }
 
 abbrev pub unknown : Entry
 unknown = record { kind = 0x0B; time = None; payload = 0x55 ∷ [] }
@@ -54,22 +51,22 @@ behind =
 
 -- its records, newest first
 abbrev pub records : List LogRecord
-records = log_record 3 (Second 0xFEDCBA98) 13 3 ∷ log_record 2 (Second 0) 4 2 ∷ log_record 1 None 0 1 ∷ []
+records = log_record 3 (Some 0xFEDCBA98) 13 3 ∷ log_record 2 (Some 0) 4 2 ∷ log_record 1 None 0 1 ∷ []
 
 -- each of them from its place
 abbrev pub bus_at : ℕ → LogRecord
 bus_at i = log_record 1 None i 1
 
 abbrev pub ip_at : ℕ → LogRecord
-ip_at i = log_record 2 (Second 0) i 2
+ip_at i = log_record 2 (Some 0) i 2
 
 abbrev pub ethernet_at : ℕ → LogRecord
-ethernet_at i = log_record 3 (Second 0xFEDCBA98) i 3
+ethernet_at i = log_record 3 (Some 0xFEDCBA98) i 3
 
 -- what was written, and what the log itself, without the rest of the buffer, reads back to
 pub record Example : Type 0 where
   pub writes : Writes
   pub written : Written behind 23 (ethernet ∷ ip ∷ bus ∷ [])
-  pub read : Back (take 23 behind) 23 records StartReached
+  pub read : Back (take 23 behind) 23 records (Ok tt)
   pub payloads : map (payload_in (take 23 behind)) records ≡ ethernet.payload ∷ ip.payload ∷ bus.payload ∷ []
-  pub count : count_answer (take 23 behind) 23 ≡ record { count = 3; last = StartReached }
+  pub count : count_answer (take 23 behind) 23 ≡ record { count = 3; last = Ok tt }

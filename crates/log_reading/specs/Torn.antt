@@ -1,12 +1,10 @@
 -- A log that was written by appending and has lost octets at its front: which records are still whole, and what reading the rest gives.
 -- Assumes nothing.
-use Rattle.std.specs.Prelude.{ℕ, ◌+◌, ◌-◌, ◌≡◌, Bool, cond, true, false, ◌||◌, List, [], ◌∷◌, map, eqb, leb, length, take, drop}
+use Rattle.std.specs.Prelude.{ℕ, ◌+◌, ◌-◌, ◌≡◌, Bool, cond, true, false, ◌||◌, List, [], ◌∷◌, map, eqb, leb, length, take, drop, Ok}
+use Rattle.octets.specs.Refusal.{refused}
 use Rattle.log_record.specs.Record.{Entry}
-use Rattle.log_record.specs.Read.{log_record}
 use Rattle.log_record.specs.declared.LogRecord.{LogRecord}
-use Rattle.log_record.specs.declared.RecordRead.{RecordRead}
-use Rattle.log_record.specs.declared.RecordRead.TheVariants.{StartReached, Refused}
-use Rattle.log_reading.specs.Reading.{Listed}
+use Rattle.log_reading.specs.Reading.{Last, Listed}
 use Rattle.log_reading.specs.Written.{Written, log_of, records_of, ReadsAs}
 use Rattle.log_reading.specs.declared.RecordsCounted.{RecordsCounted}
 
@@ -22,12 +20,12 @@ starts_at place (x ∷ xs) = eqb place x.start || starts_at place xs
 
 -- a record as it stands in the log without so many octets at its front
 abbrev pub moved : ℕ → LogRecord → LogRecord
-moved lost x = log_record x.kind x.time (x.start - lost) x.length
+moved lost x = record x { start = x.start - lost }
 
 -- the answer behind the whole records: "start reached" if none is torn, and else 41 if one or two octets of the torn one are left, 44 if more
-unfoldable pub answer_behind : Bool → ℕ → RecordRead
-answer_behind true left = StartReached
-answer_behind false left = Refused (cond (leb left 2) 41 44)
+unfoldable pub answer_behind : Bool → ℕ → Last
+answer_behind true left = Ok tt
+answer_behind false left = refused (cond (leb left 2) 41 44)
 
 -- so many octets are lost at the front of a log with these entries, newest first
 module _ (lost : ℕ) (es : List Entry) where
@@ -48,7 +46,7 @@ module _ (lost : ℕ) (es : List Entry) where
   none_torn = eqb lost 0 || eqb lost (length (log_of es)) || starts_at lost (records_of es)
 
   -- the answer behind the whole records
-  unfoldable pub last_answer : RecordRead
+  unfoldable pub last_answer : Last
   last_answer = answer_behind none_torn torn_octets
 
   -- what reading the rest gives

@@ -1,6 +1,8 @@
 // The whole reading of a log, back from an end to its start or to the first question that fails.
 #![tactic(auto)]
 
+mod records;
+
 ghost use Rattle.std.specs.Prelude.{◌≡◌};
 ghost use Rattle.log_reading.specs.Reading.{count_answer, CountsBack};
 ghost use Rattle.log_reading.specs.Written.{ReadsWritten};
@@ -8,13 +10,14 @@ ghost use Rattle.log_reading.specs.Torn.{ReadsTorn};
 ghost use Rattle.log_reading.specs.Example.{Example};
 ghost use Rattle.log_reading.specs.Cuts.{cuts, ReadsCuts};
 
-use log_record::RecordRead;
+use octets::Refusal;
+pub use records::{RecordsBack, records_back};
 
-// What a whole reading answers: how many records there are, and the answer behind them, which is no record.
+// What a whole reading answers: how many records there are, and whether the start is reached behind them.
 #[derive(Clone, Copy)]
 pub struct RecordsCounted {
     pub count: usize,
-    pub last: RecordRead,
+    pub last: Result<(), Refusal>,
 }
 
 // How many records a whole reading back from an end gives, and the answer behind them: that the start is reached, or the
@@ -30,16 +33,19 @@ pub fn count_records(log: &[u8], end: usize) -> RecordsCounted
     ensures cuts { ReadsCuts cuts }
 {
     let mut count: usize = 0;
-    let mut at = end;
-    loop {
-        let last = log_record::read_record(log, at);
-        match last {
-            RecordRead::Record(record) => {
-                count += 1;
-                at = record.start;
+    for record in records_back(log, end) {
+        match record {
+            Ok(_) => count += 1,
+            Err(refusal) => {
+                return RecordsCounted {
+                    count,
+                    last: Err(refusal),
+                };
             }
-            RecordRead::StartReached => return RecordsCounted { count, last },
-            RecordRead::Refused(_) => return RecordsCounted { count, last },
         }
+    }
+    RecordsCounted {
+        count,
+        last: Ok(()),
     }
 }

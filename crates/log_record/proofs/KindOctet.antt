@@ -6,11 +6,11 @@ use mathlib.Core.List.{List}
 use Prim.Native.Nat.{ℕ, ◌+◌, ◌-◌, ◌≤◌}
 use native.Mathlib.Omega.{arith}
 use lib.ListN.{length}
+use Rattle.std.specs.Prelude.{Option, Some, None}
 use Rattle.octets.proofs.Ranges.{within_true, within_is, within_not}
-use Rattle.log_record.specs.Record.{known_kind, time_octets, kind_octet}
+use Rattle.log_record.specs.Kind.{known_kind}
+use Rattle.log_record.specs.Record.{time_octets, kind_octet}
 use Rattle.log_record.specs.Read.{timed, kind_of, octet_before, second_before, time_before}
-use Rattle.log_record.specs.declared.RecordTime.{RecordTime}
-use Rattle.log_record.specs.declared.RecordTime.TheVariants.{Second, None}
 
 -- the octet of a known kind
 module _ (kind : ℕ) (known : known_kind kind ≡ true) where
@@ -21,9 +21,9 @@ module _ (kind : ℕ) (known : known_kind kind ≡ true) where
   without_time = let k = within_true 1 3 kind known in within_not 0x0B 0x0D kind (omega (arith, k.1))
 
   -- stands for that kind
-  pub kind_there : (time : RecordTime) → kind_of (kind_octet kind time) ≡ kind
+  pub kind_there : (time : Option ℕ) → kind_of (kind_octet kind time) ≡ kind
   unfolding kind_of kind_octet
-  kind_there (Second s) = rw with_time (omega arith)
+  kind_there (Some s) = rw with_time (omega arith)
   kind_there None = rw without_time
 
 -- an octet, by the test whether there is a time
@@ -41,7 +41,7 @@ module _ (octet : ℕ) {b : Bool} (asked : b ≡ timed octet) where
 
 -- the time before an end, by that test
 module _ (log : List ℕ) (end : ℕ) {b : Bool} (asked : b ≡ timed (octet_before log end)) where
-  pub second_read : b ≡ true → time_before log end ≡ Second (second_before log end)
+  pub second_read : b ≡ true → time_before log end ≡ Some (second_before log end)
   unfolding time_before
   second_read e = rw (sym asked ∙ e)
 
@@ -51,14 +51,14 @@ module _ (log : List ℕ) (end : ℕ) {b : Bool} (asked : b ≡ timed (octet_bef
 
   pub four_octets : b ≡ true → length (time_octets (time_before log end)) ≡ 4
   unfolding time_octets
-  four_octets e = ap (λ (t : RecordTime). length (time_octets t)) (second_read e)
+  four_octets e = ap (λ (t : Option ℕ). length (time_octets t)) (second_read e)
 
   pub no_octet : b ≡ false → length (time_octets (time_before log end)) ≡ 0
   unfolding time_octets
-  no_octet e = ap (λ (t : RecordTime). length (time_octets t)) (none_read e)
+  no_octet e = ap (λ (t : Option ℕ). length (time_octets t)) (none_read e)
 
 -- a time has four octets at most
-pub time_few : (time : RecordTime) → length (time_octets time) ≤ 4
+pub time_few : (time : Option ℕ) → length (time_octets time) ≤ 4
 unfolding time_octets
-time_few (Second s) = omega arith
+time_few (Some s) = omega arith
 time_few None = omega arith

@@ -1,48 +1,53 @@
 -- Counts of changes added up: what one change adds, what loops add, and that the sums are small.
 -- Assumes nothing.
-use mathlib.Core.Path.{◌≡◌, sym, ap, subst, ◌∙◌}
-use mathlib.Core.Bool.{Bool, true, false, cond}
+use mathlib.Core.Path.{◌≡◌, ap, subst, ◌∙◌}
+use mathlib.Core.Bool.{Bool, true, false, cond, not}
 use mathlib.Core.List.{List, [], ◌∷◌}
 use Prim.Native.Nat.{ℕ, zero, suc, ◌+◌, ◌*◌, ◌≤◌, ◌<◌}
 use native.Mathlib.Nat.{suc-mul}
 use native.Mathlib.Numerals.{add-one}
 use native.Mathlib.Omega.{arith}
 use borrow.Author.Tests.{eq-eqb, ne_eqb}
-use lib.ListN.{get_or, set, take}
-use lib.Seq.{get_or-take, take-set-lt}
+use lib.ListN.{get_or, set}
+use Rattle.std.specs.Prelude.{Result, Ok, Err, is_err}
+use Rattle.octets.specs.declared.refusal.Refusal.{Refusal}
 use Rattle.crc.specs.declared.CheckRule.{CheckRule}
 use Rattle.mstp_frame.specs.declared.MstpFrameType.{MstpFrameType}
 use Rattle.mstp_frame.specs.FrameType.{type_of}
 use Rattle.mstp_decode.specs.Change.{is_frame}
 use Rattle.mstp_decode.specs.Decode.{decode}
 use Rattle.mstp_decode.specs.Frame.{encode_frame}
+use Rattle.mstp_decode.specs.declared.MstpHeader.{MstpHeader}
 use Rattle.missed_changes.specs.declared.Tally.{Tally}
 use Rattle.missed_changes.specs.Changes.{Test, is_change, is_missed, sum_to, of_octet, of_place, of_frame, of_pair, of_type, of_all}
 use Rattle.missed_changes.specs.Changes.{Tallies, Fit, Sum}
 
--- one octet put at a place of the first n octets
-module _ (rule : CheckRule) (frame : List ℕ) (n place octet : ℕ) (inside : place < n) where
+-- a frame is read where the answer is no refusal
+pub read_is : (answer : Result MstpHeader Refusal) {refused told : Bool} {right : Result MstpHeader Refusal} → refused ≡ is_err answer → refused ≡ told
+    → answer ≡ right → not told ≡ is_frame right
+read_is (Ok header) is so same = rw (← so, is, ← same)
+read_is (Err refusal) is so same = rw (← so, is, ← same)
+
+-- one octet put at a place
+module _ (rule : CheckRule) (frame : List ℕ) (place octet : ℕ) where
   abbrev Tallied : Tally → Type 0
-  Tallied tally = Tallies rule (λ test. of_octet test (take n frame) place octet) tally
+  Tallied tally = Tallies rule (λ test. of_octet test frame place octet) tally
 
   -- the same octet is no change
   pub unchanged : {tally : Tally} → get_or frame place 0 ≡ octet → (tally.changes ≡ 0) × (tally.read ≡ 0) → Tallied tally
   unfolding of_octet is_change is_missed
   unchanged same none =
-      let there = eq-eqb (get_or (take n frame) place 0) octet (get_or-take n frame place 0 inside ∙ same) in
+      let there = eq-eqb (get_or frame place 0) octet same in
       record { made = rw there none.0; missed = rw there none.1 }
 
   -- another is one, which is read or not
   pub changed : {tally : Tally} {read : Bool} → (get_or frame place 0 ≡ octet → ⊥)
-      → read ≡ is_frame (decode rule (take n (set frame place octet)))
+      → read ≡ is_frame (decode rule (set frame place octet))
       → (tally.changes ≡ 1) × (tally.read ≡ cond read 1 0) → Tallied tally
   unfolding of_octet is_change is_missed
   changed other is one =
-      let there = ne_eqb (get_or (take n frame) place 0) octet (λ e. other (sym (get_or-take n frame place 0 inside) ∙ e)) in
-      record {
-        made = rw there one.0;
-        missed = rw (there, ← take-set-lt n frame place octet inside) (one.1 ∙ ap (λ (b : Bool). cond b 1 0) is);
-      }
+      let there = ne_eqb (get_or frame place 0) octet other in
+      record { made = rw there one.0; missed = rw there (one.1 ∙ ap (λ (b : Bool). cond b 1 0) is) }
 
 -- a number of at most b for each of n numbers
 sum_most : (f : ℕ → ℕ) (b : ℕ) → ((i : ℕ) → f i ≤ b) → (n : ℕ) → sum_to f n ≤ n * b

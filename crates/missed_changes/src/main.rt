@@ -3,18 +3,15 @@
 // message.
 #![tactic(auto)]
 
-ghost use Rattle.std.specs.Prelude.{◌≡◌, ◌+◌, ◌≤◌, ◌<◌, length, take};
+ghost use Rattle.std.specs.Prelude.{◌≡◌, ◌+◌, ◌≤◌, ◌<◌, length};
 ghost use Rattle.octets.specs.Put.{Put};
-ghost use Rattle.mstp_decode.specs.Change.{is_frame};
-ghost use Rattle.mstp_decode.specs.Decode.{decode};
 ghost use Rattle.mstp_decode.specs.Frame.{encode_frame};
 ghost use Rattle.missed_changes.specs.Changes.{of_octet, of_place, of_frame, of_pair, of_type, of_all, Tallies, Fit, Sum};
 ghost use Rattle.missed_changes.specs.Text.{spaced, change_line, count_line};
 
 use crc::CheckRule;
-use mstp_decode::MstpDecoded;
-use mstp_frame::{MSTP_HEADER_SIZE, MstpFrameType};
-use octets::CountResult;
+use mstp_frame::{MSTP_HEADER_SIZE, MSTP_LAST_TYPE, MstpFrameType};
+use std::ops::Add;
 
 // Octets of the longest frame: a header, three data octets and their check.
 const FRAME: usize = 13;
@@ -30,6 +27,7 @@ const COUNT_LINE: usize = 35;
 struct Tally {
     changes: usize,
     read: usize,
+    // Kept: a flag, and no `Result`, so that `Tallies` holds of every answer.
     written: bool,
 }
 
@@ -45,24 +43,19 @@ fn counted(changes: usize, read: usize) -> Tally
 }
 
 // Two tallies as one.
-fn plus(a: Tally, b: Tally) -> Tally
-    requires { Fit a b }
-    ensures { Sum a b result }
-{
-    Tally {
-        changes: a.changes + b.changes,
-        read: a.read + b.read,
-        written: a.written && b.written,
-    }
-}
+impl Add for Tally {
+    type Output = Tally;
 
-// Whether a frame is read.
-fn is_read(rule: CheckRule, frame: &[u8]) -> bool
-    ensures { result ≡ is_frame (decode rule frame.now) }
-{
-    match mstp_decode::decode(rule, frame) {
-        MstpDecoded::Frame(_) => true,
-        MstpDecoded::Refused(_) => false,
+    ghost can_add = { λ a b. Fit a b };
+
+    ghost add_gives = { λ a b tally. Sum a b tally };
+
+    fn add(self, other: Tally) -> Tally {
+        Tally {
+            changes: self.changes + other.changes,
+            read: self.read + other.read,
+            written: self.written && other.written,
+        }
     }
 }
 
@@ -73,16 +66,17 @@ fn put_spaced(s: &[u8], out: &mut [u8], at: usize) -> usize
     ensures { Put (spaced s.now) out.old at out.new result }
 {
     let mut behind = text::put_hex_2(s[0], out, at);
-    for i in 1..s.len() {
+    for octet in &s[1..] {
         behind = octets::put(b" ", out, behind);
-        behind = text::put_hex_2(s[i], out, behind);
+        behind = text::put_hex_2(*octet, out, behind);
     }
     behind
 }
 
 // The line of a change: the header as it was, and as changed.
-fn change_line(frame: [u8; FRAME], changed: [u8; FRAME]) -> [u8; LINE]
-    ensures { result ≡ change_line frame changed }
+fn change_line(frame: &[u8], changed: &[u8]) -> [u8; LINE]
+    requires { (8 ≤ length frame.now) × (8 ≤ length changed.now) }
+    ensures { result ≡ change_line frame.now changed.now }
 {
     let mut out = [0u8; LINE];
     let mut behind = put_spaced(&frame[..MSTP_HEADER_SIZE], &mut out, 0);
@@ -92,119 +86,107 @@ fn change_line(frame: [u8; FRAME], changed: [u8; FRAME]) -> [u8; LINE]
     out
 }
 
-// Puts an octet at a place of a frame of n octets. Prints the change, where it is one, if it is read.
-fn change<P: Print>(
-    to: &P,
+// Reads changed frames under a rule, and prints the changes that are read.
+#[derive_where(Clone, Copy)]
+struct Reader<'a, P> {
+    to: &'a P,
     rule: CheckRule,
-    frame: [u8; FRAME],
-    n: usize,
-    place: usize,
-    octet: u8,
-) -> Tally
-    requires { (place < n) × (n ≤ 13) }
-    ensures { Tallies rule (λ test. of_octet test (take n frame) place octet) result }
-{
-    if frame[place] == octet {
-        return counted(0, 0);
-    }
-    let mut changed = frame;
-    changed[place] = octet;
-    if !is_read(rule, &changed[..n]) {
-        return counted(1, 0);
-    }
-    let line = change_line(frame, changed);
-    Tally {
-        changes: 1,
-        read: 1,
-        written: to.write_all(&line).is_ok(),
-    }
 }
 
-// Every octet at a place.
-fn change_place<P: Print>(
-    to: &P,
-    rule: CheckRule,
-    frame: [u8; FRAME],
-    n: usize,
-    place: usize,
-) -> Tally
-    requires { (place < n) × (n ≤ 13) }
-    ensures { Tallies rule (λ test. of_place test (take n frame) place) result }
-{
-    let mut tally = counted(0, 0);
-    for octet in 0..256usize {
-        tally = plus(tally, change(to, rule, frame, n, place, octet as u8));
+impl<P: Print> Reader<'_, P> {
+    // Puts an octet at a place of a frame. Prints the change, where it is one, if it is read.
+    fn change(&self, frame: &[u8], place: usize, octet: u8) -> Tally
+        requires { (place < length frame.now) × (8 ≤ length frame.now) × (length frame.now ≤ 13) }
+        ensures { Tallies self.now.rule (λ test. of_octet test frame.now place octet) result }
+    {
+        if frame[place] == octet {
+            return counted(0, 0);
+        }
+        let mut memory = [0u8; FRAME];
+        let changed = &mut memory[..frame.len()];
+        changed.copy_from_slice(frame);
+        changed[place] = octet;
+        if mstp_decode::decode(self.rule, changed).is_err() {
+            return counted(1, 0);
+        }
+        let line = change_line(frame, changed);
+        Tally {
+            changes: 1,
+            read: 1,
+            written: self.to.write_all(&line).is_ok(),
+        }
     }
-    tally
-}
 
-// Every octet at each of the five places that the header check covers, from 2 on.
-fn change_frame<P: Print>(to: &P, rule: CheckRule, frame: [u8; FRAME], n: usize) -> Tally
-    requires { (8 ≤ n) × (n ≤ 13) }
-    ensures { Tallies rule (λ test. of_frame test (take n frame)) result }
-{
-    let mut tally = counted(0, 0);
-    for i in 0..5usize {
-        tally = plus(tally, change_place(to, rule, frame, n, i + 2));
+    // Every octet at a place.
+    fn change_place(&self, frame: &[u8], place: usize) -> Tally
+        requires { (place < length frame.now) × (8 ≤ length frame.now) × (length frame.now ≤ 13) }
+        ensures { Tallies self.now.rule (λ test. of_place test frame.now place) result }
+    {
+        let mut tally = counted(0, 0);
+        for octet in 0..=u8::MAX {
+            tally = tally + self.change(frame, place, octet);
+        }
+        tally
     }
-    tally
-}
 
-// A new frame with at most three data octets.
-fn change_written<P: Print>(
-    to: &P,
-    rule: CheckRule,
-    frame_type: MstpFrameType,
-    destination: u8,
-    source: u8,
-    body: &[u8],
-) -> Tally
-    requires { length body.now ≤ 3 }
-    ensures { Tallies rule (λ test. of_frame test (encode_frame rule frame_type destination source body.now)) result }
-{
-    let mut frame = [0u8; FRAME];
-    match mstp_encode::encode(rule, frame_type, destination, source, body, &mut frame) {
-        CountResult::Count(n) => change_frame(to, rule, frame, n),
-        CountResult::Refused(_) => counted(0, 0),
+    // Every octet at each of the five places that the header check covers, from 2 on.
+    fn change_frame(&self, frame: &[u8]) -> Tally
+        requires { (8 ≤ length frame.now) × (length frame.now ≤ 13) }
+        ensures { Tallies self.now.rule (λ test. of_frame test frame.now) result }
+    {
+        let mut tally = counted(0, 0);
+        for i in 0..5 {
+            tally = tally + self.change_place(frame, i + 2);
+        }
+        tally
     }
-}
 
-// A frame without data, and one with three octets.
-fn change_pair<P: Print>(
-    to: &P,
-    rule: CheckRule,
-    frame_type: MstpFrameType,
-    destination: u8,
-    source: u8,
-) -> Tally
-    ensures { Tallies rule (λ test. of_pair test rule frame_type destination source) result }
-{
-    let without = change_written(to, rule, frame_type, destination, source, b"");
-    let with = change_written(to, rule, frame_type, destination, source, b"\x01\x02\x03");
-    plus(without, with)
-}
-
-// A type's frames: to 10 from 05, and to FF from 82.
-fn change_type<P: Print>(to: &P, rule: CheckRule, frame_type: MstpFrameType) -> Tally
-    ensures { Tallies rule (λ test. of_type test rule frame_type) result }
-{
-    let first = change_pair(to, rule, frame_type, 0x10, 0x05);
-    let second = change_pair(to, rule, frame_type, 0xFF, 0x82);
-    plus(first, second)
-}
-
-// All types' frames.
-fn change_all<P: Print>(to: &P, rule: CheckRule) -> Tally
-    ensures { Tallies rule (λ test. of_all test rule) result }
-{
-    let mut tally = counted(0, 0);
-    for number in 0..8usize {
-        tally = plus(
-            tally,
-            change_type(to, rule, mstp_frame::type_of(number as u8)),
-        );
+    // A new frame with at most three data octets.
+    fn change_written(
+        &self,
+        frame_type: MstpFrameType,
+        destination: u8,
+        source: u8,
+        body: &[u8],
+    ) -> Tally
+        requires { length body.now ≤ 3 }
+        ensures { Tallies self.now.rule (λ test. of_frame test (encode_frame self.now.rule frame_type destination source body.now)) result }
+    {
+        let mut frame = [0u8; FRAME];
+        match mstp_encode::encode(self.rule, frame_type, destination, source, body, &mut frame) {
+            Ok(n) => self.change_frame(&frame[..n]),
+            Err(_) => counted(0, 0),
+        }
     }
-    tally
+
+    // A frame without data, and one with three octets.
+    fn change_pair(&self, frame_type: MstpFrameType, destination: u8, source: u8) -> Tally
+        ensures { Tallies self.now.rule (λ test. of_pair test self.now.rule frame_type destination source) result }
+    {
+        let without = self.change_written(frame_type, destination, source, b"");
+        let with = self.change_written(frame_type, destination, source, b"\x01\x02\x03");
+        without + with
+    }
+
+    // A type's frames: to 10 from 05, and to FF from 82.
+    fn change_type(&self, frame_type: MstpFrameType) -> Tally
+        ensures { Tallies self.now.rule (λ test. of_type test self.now.rule frame_type) result }
+    {
+        let first = self.change_pair(frame_type, 0x10, 0x05);
+        let second = self.change_pair(frame_type, 0xFF, 0x82);
+        first + second
+    }
+
+    // All types' frames.
+    fn change_all(&self) -> Tally
+        ensures { Tallies self.now.rule (λ test. of_all test self.now.rule) result }
+    {
+        let mut tally = counted(0, 0);
+        for number in 0..=MSTP_LAST_TYPE {
+            tally = tally + self.change_type(mstp_frame::type_of(number));
+        }
+        tally
+    }
 }
 
 // A rule's last line: its name and the counts.
@@ -223,7 +205,7 @@ fn put_count_line(name: &[u8], changes: usize, read: usize, out: &mut [u8], at: 
 fn print_rule<P: Print>(to: &P, name: &[u8], rule: CheckRule) -> bool
     requires { length name.now ≤ 8 }
 {
-    let tally = change_all(to, rule);
+    let tally = Reader { to, rule }.change_all();
     let mut line = [0u8; COUNT_LINE];
     let n = put_count_line(name, tally.changes, tally.read, &mut line, 0);
     to.write_all(&line[..n]).is_ok() && tally.written

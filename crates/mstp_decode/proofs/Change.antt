@@ -53,6 +53,10 @@ word_two : (c : ℕ) → word (low_first c) ≡ c
 unfolding word
 word_two c = omega (arith, number_of c)
 
+-- octets behind the preamble
+pub header_octets_lem : (n : ℕ) (u : List ℕ) → Octets u → Octets (take n (drop 2 u))
+header_octets_lem n u ou = octets_take n (drop 2 u) (octets_drop 2 u ou)
+
 -- the header octets and their check, as accepted
 module _ (rule : CheckRule) (s : List ℕ) (a : Accepted rule s) where
   header_is : checked_header s ≡ take 5 (drop 2 s) ++ header_check rule (take 5 (drop 2 s)) ∷ []
@@ -62,12 +66,6 @@ module _ (rule : CheckRule) (s : List ℕ) (a : Accepted rule s) where
       ∙ ap (λ (c : ℕ). take 5 (drop 2 s) ++ c ∷ []) (sym a.header)
 
 module _ (rule : CheckRule) (s t : List ℕ) (os : Octets s) (ot : Octets t) (a : Accepted rule s) (b : Accepted rule t) where
-  part : (u : List ℕ) → Octets u → Octets (checked_header u)
-  part u ou = octets_take 6 (drop 2 u) (octets_drop 2 u ou)
-
-  fields : (u : List ℕ) → Octets u → Octets (take 5 (drop 2 u))
-  fields u ou = octets_take 5 (drop 2 u) (octets_drop 2 u ou)
-
   one_octet : (c : ℕ) → c < 256 → Octets (c ∷ [])
   one_octet c h zero = h
   one_octet c h (suc i) = lit< tt
@@ -77,7 +75,7 @@ module _ (rule : CheckRule) (s t : List ℕ) (os : Octets s) (ot : Octets t) (a 
   header_alike =
       rw (header_is rule s a, header_is rule t b)
       (checked_alike 8 (header_constant rule) (take 5 (drop 2 s)) (take 5 (drop 2 t)) (header_check rule (take 5 (drop 2 s)) ∷ [])
-      (header_check rule (take 5 (drop 2 t)) ∷ []) (lit≤ tt) (header_low rule) (fields s os) (fields t ot)
+      (header_check rule (take 5 (drop 2 t)) ∷ []) (lit≤ tt) (header_low rule) (header_octets_lem 5 s os) (header_octets_lem 5 t ot)
       (one_octet (header_check rule (take 5 (drop 2 s))) (rw a.header (os 7)))
       (one_octet (header_check rule (take 5 (drop 2 t))) (rw b.header (ot 7)))
       refl
@@ -86,7 +84,7 @@ module _ (rule : CheckRule) (s t : List ℕ) (os : Octets s) (ot : Octets t) (a 
 
   pub header_found : Burst (header_bits rule) (checked_header s) (checked_header t) → ⊥
   header_found burst =
-      noticed (header_bits rule - 1) (header_constant rule) (header_top rule) (ones 8) (checked_header s) (checked_header t) (part s os) (part t ot) header_alike
+      noticed (header_bits rule - 1) (header_constant rule) (header_top rule) (ones 8) (checked_header s) (checked_header t) (header_octets_lem 6 s os) (header_octets_lem 6 t ot) header_alike
       (subst (λ (w : ℕ). Burst w (checked_header s) (checked_header t)) (bits_are rule) burst)
 
   pub data_found : Burst data_bits (checked_data s) (checked_data t) → ⊥

@@ -18,7 +18,7 @@ use Rattle.octets.specs.Number.{number}
 use Rattle.octets.specs.Range.{within}
 use Rattle.octets.proofs.Change.{differ_drop, differ_take}
 use Rattle.octets.proofs.Numbers.{high_is, low_is}
-use Rattle.octets.proofs.Parts.{Octets, octets_drop, octets_take}
+use Rattle.octets.proofs.Parts.{Octets, octets_drop}
 use Rattle.octets.proofs.Ranges.{within_true}
 use Rattle.octets.proofs.Tests.{both_true, both_are}
 use Rattle.crc.specs.Burst.{XoredAt, Burst}
@@ -34,7 +34,7 @@ use Rattle.mstp_frame.specs.Size.{frame_size}
 use Rattle.mstp_frame.proofs.Sizes.{size_injective}
 use Rattle.mstp_decode.specs.Change.{missed, header_bits, checked_header}
 use Rattle.mstp_decode.proofs.Accepted.{Accepted}
-use Rattle.mstp_decode.proofs.Change.{header_top, one_more, header_alike, data_found}
+use Rattle.mstp_decode.proofs.Change.{header_top, one_more, header_octets_lem, header_alike, data_found}
 
 -- the pattern that a header constant does not find is more than a type has bits, and an octet only under the house rule
 large : (rule : CheckRule) → 8 ≤ missed_pattern (header_constant rule)
@@ -50,9 +50,6 @@ address_missed House place p h e low high = both_are _ _ (both_are _ _ (le-leb _
 -- an octet of the first n behind the preamble
 header_octet : (n i : ℕ) (u : List ℕ) → i < n → get_or (take n (drop 2 u)) i 0 ≡ get_or u (2 + i) 0
 header_octet n i u h = get_or-take n (drop 2 u) i 0 h ∙ get_or-drop 2 u i 0
-
-header_octets_lem : (n : ℕ) (u : List ℕ) → Octets u → Octets (take n (drop 2 u))
-header_octets_lem n u ou = octets_take n (drop 2 u) (octets_drop 2 u ou)
 
 -- what is XORed in where octets differ in one
 module _ (s t : List ℕ) (os : Octets s) (ot : Octets t) (place : ℕ) where

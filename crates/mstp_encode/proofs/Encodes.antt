@@ -4,17 +4,17 @@ use mathlib.Core.Path.{◌≡◌, refl, sym, ◌∙◌}
 use mathlib.Core.List.{List, [], ◌∷◌, ◌++◌}
 use Prim.Native.Nat.{ℕ, ◌+◌, ◌/◌, ◌%◌, ◌≤◌, ◌<◌}
 use native.Mathlib.Omega.{arith}
-use borrow.Author.Tests.{le-leb, lt-leb}
+use borrow.Author.Tests.{le-leb}
 use lib.ListN.{length}
-use Rattle.octets.specs.Number.{high_first, low_first}
+use Rattle.octets.specs.Number.{low_first}
 use Rattle.octets.specs.Put.{Put}
-use Rattle.octets.specs.declared.CountResult.{CountResult}
-use Rattle.octets.specs.declared.CountResult.TheVariants.{Count, Refused}
+use Rattle.std.specs.Prelude.{Result, Ok}
 use Rattle.octets.specs.Output.{InFront}
-use Rattle.octets.proofs.Outputs.{refuses, writes}
+use Rattle.octets.specs.declared.refusal.Refusal.{Refusal}
+use Rattle.octets.proofs.Outputs.{writes}
 use Rattle.octets.proofs.Parts.{Octets}
 use Rattle.octets.proofs.Puts.{put_more, room_more, put_front}
-use Rattle.octets.proofs.Questions.{passed, failed, none_fails}
+use Rattle.octets.proofs.Questions.{none_fails}
 use Rattle.crc.specs.Rule.{header_check, data_check}
 use Rattle.crc.specs.declared.CheckRule.{CheckRule}
 use Rattle.mstp_frame.specs.declared.MstpFrameType.{MstpFrameType}
@@ -25,16 +25,17 @@ use Rattle.mstp_frame.specs.FrameType.{type_number}
 use Rattle.mstp_decode.specs.Change.{WrittenFrame}
 use Rattle.mstp_decode.specs.RoundTrip.{GivesBack, ReadsBack}
 use Rattle.mstp_decode.proofs.ReadsBack.{decode_back, data_back}
-use Rattle.mstp_frame.proofs.Sizes.{size_least}
 use Rattle.mstp_decode.proofs.Sizes.{encoded_size}
 use Rattle.mstp_encode.proofs.Written.{written}
 
 -- eight octets are a header
-pub header_is : (rule : CheckRule) (t : MstpFrameType) (destination source n : ℕ) {number check : ℕ}
+pub header_is : (rule : CheckRule) (t : MstpFrameType) (destination source n : ℕ) {number high low check : ℕ}
     → number ≡ type_number t
-    → check ≡ header_check rule (number ∷ destination ∷ source ∷ high_first n)
-    → 0x55 ∷ 0xFF ∷ number ∷ destination ∷ source ∷ n / 256 ∷ n % 256 ∷ check ∷ [] ≡ header_octets rule (header_fields t destination source n)
-header_is rule t destination source n en ec = rw (ec, en)
+    → high ≡ n / 256
+    → low ≡ n % 256
+    → check ≡ header_check rule (number ∷ destination ∷ source ∷ high ∷ low ∷ [])
+    → 0x55 ∷ 0xFF ∷ number ∷ destination ∷ source ∷ high ∷ low ∷ check ∷ [] ≡ header_octets rule (header_fields t destination source n)
+header_is rule t destination source n en eh el ec = rw (ec, en, eh, el)
 
 -- no data, nothing put
 pub no_data : (rule : CheckRule) (body : List ℕ) → length body ≡ 0 → data_octets rule body ≡ []
@@ -42,49 +43,31 @@ no_data rule [] none = refl
 no_data rule (b ∷ body) none = absurd (omega arith)
 
 -- some data have a check
-pub some_data : (rule : CheckRule) (body : List ℕ) {check : ℕ} → (length body ≡ 0 → ⊥) → check ≡ data_check rule body
-    → data_octets rule body ≡ body ++ low_first check
-some_data rule [] some e = absurd (some refl)
-some_data rule (b ∷ body) some e = rw e
+pub some_data : (rule : CheckRule) (body : List ℕ) {check : ℕ} {sent : List ℕ} → (length body ≡ 0 → ⊥) → check ≡ data_check rule body
+    → sent ≡ low_first check → data_octets rule body ≡ body ++ sent
+some_data rule [] some e sent = absurd (some refl)
+some_data rule (b ∷ body) some e sent = rw (sent, e)
 
 -- what `encode` answers and leaves, with the round trip that it promises
 module _ (rule : CheckRule) (t : MstpFrameType) (destination source : ℕ) (body out : List ℕ) where
   abbrev frame : List ℕ
   frame = encode_frame rule t destination source body
 
-  abbrev Encoded : CountResult → List ℕ → Type 0
-  Encoded answer l =
-      (answer ≡ encode_answer rule t destination source body out)
-      × ((l ≡ encode_output rule t destination source body out)
-      × (ReadsBack rule t destination source body l answer × InFront (WrittenFrame rule) answer l))
-
-  refused : {q : ℕ} → q ≡ encode_question rule t destination source body out → (q ≡ 0 → ⊥) → Encoded (Refused q) out
-  unfolding encode_answer encode_output
-  refused asked fails =
-      let r = refuses (GivesBack rule t destination source body) frame out asked fails in (r.0, (r.1.0, (r.1.1, tt)))
-
-  pub too_long : 501 < length body → Encoded (Refused 7) out
-  unfolding encode_question encode_questions
-  too_long h = refused (failed 7 _ (lt-leb (length body) 501 h)) (λ z. omega arith)
+  pub record Encoded (answer : Result ℕ Refusal) (left : List ℕ) : Type 0 where
+    pub value : answer ≡ encode_answer rule t destination source body out
+    pub output : left ≡ encode_output rule t destination source body out
+    pub back : ReadsBack rule t destination source body left answer
+    pub written : InFront (WrittenFrame rule) answer left
 
   module _ (few : length body ≤ 501) {size : ℕ} (sized : size ≡ frame_size (length body)) where
     frame_size_is : length frame ≡ size
     frame_size_is = encoded_size rule t destination source body ∙ sym sized
-
-    pub no_room : length out < size → Encoded (Refused 8) out
-    unfolding encode_question encode_questions
-    no_room h =
-        refused (passed 7 _ (le-leb (length body) 501 few) (failed 8 _ (lt-leb (length frame) (length out) (rw frame_size_is h))))
-        (λ z. omega arith)
 
     module _ (room : size ≤ length out) where
       none : encode_question rule t destination source body out ≡ 0
       unfolding encode_question encode_questions
       none = none_fails (encode_questions body frame out)
           (le-leb (length body) 501 few, (le-leb (length frame) (length out) (rw frame_size_is room), tt))
-
-      pub header_fits : 8 ≤ length out
-      header_fits = omega (arith, size_least (length body))
 
       abbrev header : List ℕ
       header = header_octets rule (header_fields t destination source (length body))
@@ -96,7 +79,7 @@ module _ (rule : CheckRule) (t : MstpFrameType) (destination source : ℕ) (body
 
         -- header and data are the frame in front, which reads back
         pub all_written : destination < 256 → source < 256 → Octets body → {after : List ℕ} {n : ℕ} → Put (data_octets rule body) l at after n
-            → Encoded (Count n) after
+            → Encoded (Ok n) after
         unfolding encode_frame encode_answer encode_output
         all_written to from octets second =
             let front = put_front (put_more first second) in
@@ -104,4 +87,4 @@ module _ (rule : CheckRule) (t : MstpFrameType) (destination source : ℕ) (body
             = (decode_back rule t destination source body, data_back rule t destination source body) in
             let w = writes (λ s. GivesBack rule t destination source body s × WrittenFrame rule s) frame out
             (back, written rule t destination source body to from octets few) none front.0 front.1 in
-            (w.0, (w.1.0, (w.1.1.0, w.1.1.1)))
+            record { value = w.0; output = w.1.0; back = w.1.1.0; written = w.1.1.1 }

@@ -1,9 +1,9 @@
 -- Writing an MS/TP frame: questions 7 and 8, the answer and the lent output.
 -- Assumes nothing.
-use Rattle.std.specs.Prelude.{ℕ, List, [], ◌∷◌, leb, length}
+use Rattle.std.specs.Prelude.{ℕ, Result, List, [], ◌∷◌, leb, length}
 use Rattle.octets.specs.Question.{Question, ask, first_no}
 use Rattle.octets.specs.Output.{write_answer, write_output}
-use Rattle.octets.specs.declared.CountResult.{CountResult}
+use Rattle.octets.specs.declared.refusal.Refusal.{Refusal}
 use Rattle.crc.specs.declared.CheckRule.{CheckRule}
 use Rattle.mstp_frame.specs.declared.MstpFrameType.{MstpFrameType}
 use Rattle.mstp_decode.specs.Frame.{encode_frame}
@@ -29,8 +29,8 @@ module _ (rule : CheckRule) (frame_type : MstpFrameType) (destination source : �
   unfoldable pub encode_question : ℕ
   encode_question = first_no (encode_questions body frame out)
 
-  -- what writing answers: the frame's octet count, or the question
-  unfoldable pub encode_answer : CountResult
+  -- what writing answers: the frame's octet count, or the refusal
+  unfoldable pub encode_answer : Result ℕ Refusal
   encode_answer = write_answer encode_question frame
 
   -- the lent output afterwards: the frame at its front, or as it was

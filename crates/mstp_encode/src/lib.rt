@@ -11,11 +11,12 @@ ghost use Rattle.mstp_decode.specs.RoundTrip.{ReadsBack};
 
 use crc::CheckRule;
 use mstp_frame::{MSTP_MAX_DATA_LENGTH, MstpFrameType};
-use octets::CountResult;
+use octets::Refusal;
 
 // Writes a frame at the front of `out`, whose rest stays, and answers its octet count: `decode` accepts those octets and
-// gives back what was written, and what it promises of changed frames holds of them. Or answers the first question that
+// gives back what was written, and what it promises of changed frames holds of them. Or refuses by the first question that
 // fails, and writes nothing.
+#[tactic(auto, using(mstp_decode::proofs::Sizes::encoded_size), unfolding(crate::specs::Encode::encode_answer, crate::specs::Encode::encode_output, crate::specs::Encode::encode_question, crate::specs::Encode::encode_questions, octets::specs::Output::write_answer, octets::specs::Output::write_output, octets::specs::Question::first_no, octets::specs::Question::answered))]
 pub fn encode(
     rule: CheckRule,
     frame_type: MstpFrameType,
@@ -23,20 +24,20 @@ pub fn encode(
     source: u8,
     body: &[u8],
     out: &mut [u8],
-) -> CountResult
+) -> Result<usize, Refusal>
     ensures value { result ≡ encode_answer rule frame_type destination source body.now out.old }
     ensures output { out.new ≡ encode_output rule frame_type destination source body.now out.old }
     ensures back { ReadsBack rule frame_type destination source body.now out.new result }
     ensures written { InFront (WrittenFrame rule) result out.new }
 {
-    let n = body.len();
-    if MSTP_MAX_DATA_LENGTH < n {
-        return CountResult::Refused(7);
+    if MSTP_MAX_DATA_LENGTH < body.len() {
+        return Err(Refusal::MstpDataTooLong);
     }
-    let size = mstp_frame::frame_size(n as u16);
-    if out.len() < size {
-        return CountResult::Refused(8);
+    // Kept: `as`, as in the Rust, and no `try_from`: a number of at most 501 fits.
+    let data_length = body.len() as u16;
+    if out.len() < mstp_frame::frame_size(data_length) {
+        return Err(Refusal::MstpOutputTooShort);
     }
-    let at = output::put_header(rule, frame_type, destination, source, n as u16, out);
-    CountResult::Count(output::put_data(rule, body, out, at))
+    let at = output::put_header(rule, frame_type, destination, source, data_length, out);
+    Ok(output::put_data(rule, body, out, at))
 }

@@ -18,9 +18,8 @@ pub(crate) fn put_header(
     requires { 8 ≤ length out.old }
     ensures { Put (header_octets rule (header_fields frame_type destination source n)) out.old 0 out.new result }
 {
-    let number = frame_type.to_u8();
-    let high = (n / 256) as u8;
-    let low = (n % 256) as u8;
+    let number = u8::from(frame_type);
+    let [high, low] = n.to_be_bytes();
     let check = crc::calculate_header_crc(rule, [number, destination, source, high, low]);
     let header = [
         MSTP_PREAMBLE_55,
@@ -40,11 +39,10 @@ pub(crate) fn put_data(rule: CheckRule, body: &[u8], out: &mut [u8], at: usize) 
     requires { at + length (data_octets rule body.now) ≤ length out.old }
     ensures { Put (data_octets rule body.now) out.old at out.new result }
 {
-    if body.len() == 0 {
+    if body.is_empty() {
         return at;
     }
     let check = crc::crc16_mstp(rule, body);
-    let sent = [(check % 256) as u8, (check / 256) as u8];
     let behind = octets::put(body, out, at);
-    octets::put(&sent, out, behind)
+    octets::put(&check.to_le_bytes(), out, behind)
 }

@@ -22,23 +22,15 @@ const HEADER_CHECK: usize = 7;
 fn octet_at(frame: &[u8], i: usize) -> u8
     ensures { result ≡ get_or frame.now i 0 }
 {
-    if frame.len() <= i {
-        return 0;
-    }
-    frame[i]
+    frame.get(i).copied().unwrap_or(0)
 }
 
 // The n octets from a place on, or as many of them as are there.
 fn part(frame: &[u8], from: usize, n: usize) -> &[u8]
     ensures { result.now ≡ take n (drop from frame.now) }
 {
-    if frame.len() < from {
-        return &frame[..0];
-    }
-    if frame.len() - from < n {
-        return &frame[from..];
-    }
-    &frame[from..from + n]
+    let rest = &frame[from.min(frame.len())..];
+    &rest[..n.min(rest.len())]
 }
 
 // The first two octets, as one number.
@@ -49,13 +41,11 @@ pub fn preamble(frame: &[u8]) -> u16
 }
 
 // Whether they are 55 FF.
+#[tactic(auto, unfolding(crate::specs::Fields::begins_preamble))]
 pub fn begins_preamble(frame: &[u8]) -> bool
     ensures { result ≡ begins_preamble frame.now }
 {
-    if octet_at(frame, PREAMBLE) == MSTP_PREAMBLE_55 {
-        return octet_at(frame, PREAMBLE + 1) == MSTP_PREAMBLE_FF;
-    }
-    false
+    matches!(frame, [MSTP_PREAMBLE_55, MSTP_PREAMBLE_FF, ..])
 }
 
 // The number of the type.
@@ -80,6 +70,7 @@ pub fn source(frame: &[u8]) -> u8
 }
 
 // The data length that the header says.
+#[tactic(auto, unfolding(crate::specs::Fields::data_length))]
 pub fn data_length(frame: &[u8]) -> u16
     ensures { result ≡ data_length frame.now }
 {
@@ -117,16 +108,18 @@ pub fn field_octets(frame: &[u8]) -> [u8; 5]
 }
 
 // As many octets behind the header as the data length says.
+#[tactic(auto, unfolding(crate::specs::Fields::data_part))]
 pub fn data_part(frame: &[u8]) -> &[u8]
     ensures { result.now ≡ data_part frame.now }
 {
-    part(frame, MSTP_HEADER_SIZE, data_length(frame) as usize)
+    part(frame, MSTP_HEADER_SIZE, usize::from(data_length(frame)))
 }
 
 // The data check that was sent behind them.
+#[tactic(auto, unfolding(crate::specs::Fields::data_check_sent))]
 pub fn data_check_sent(frame: &[u8]) -> u16
     ensures { result ≡ data_check_sent frame.now }
 {
-    let end = data_length(frame) as usize + MSTP_HEADER_SIZE;
+    let end = usize::from(data_length(frame)) + MSTP_HEADER_SIZE;
     octets::number(octet_at(frame, end + 1), octet_at(frame, end))
 }

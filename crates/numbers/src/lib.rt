@@ -5,63 +5,58 @@ mod layout;
 
 ghost use Rattle.std.specs.Prelude.{◌≡◌};
 ghost use Rattle.numbers.specs.Layout.{error_number};
-ghost use Rattle.numbers.specs.Named.{rule_of, form_of, time_of};
+ghost use Rattle.numbers.specs.Named.{named, rule_of, form_of, time_of};
 
 use crc::CheckRule;
 use datalink::DataLinkError;
 use ethernet_decode::EthernetForm;
 pub use layout::{
-    StateRead, bvlc_numbers, count_numbers, header_numbers, layout_version, record_numbers,
-    state_numbers, state_of,
+    bvlc_numbers, count_numbers, header_numbers, layout_version, record_numbers, state_numbers,
+    state_of,
 };
-use log_record::RecordTime;
 
-// The largest number of a rule: 0 is Annex G, 1 the house rule.
-pub const LAST_RULE: u8 = 1;
+// The first of two for number 0, the second for 1; any other number names none.
+fn named<T: Copy>(zeroth: T, first: T, number: u8) -> Option<T>
+    ensures { result ≡ named zeroth first number }
+{
+    match number {
+        0 => Some(zeroth),
+        1 => Some(first),
+        _ => None,
+    }
+}
 
-// The rule of a number, 0 or 1; above 1 the last.
-pub fn rule_of(number: u8) -> CheckRule
+// The rule that a number names: 0 is Annex G, 1 the house rule.
+#[tactic(auto, unfolding(crate::specs::Named::rule_of))]
+pub fn rule_of(number: u8) -> Option<CheckRule>
     ensures { result ≡ rule_of number }
 {
-    if number == 0 {
-        return CheckRule::AnnexG;
-    }
-    CheckRule::House
+    named(CheckRule::AnnexG, CheckRule::House, number)
 }
 
-// The largest number of an Ethernet form: 0 is EtherType, 1 Length.
-pub const LAST_FORM: u8 = 1;
-
-// The Ethernet form of a number, 0 or 1; above 1 the last.
-pub fn form_of(number: u8) -> EthernetForm
+// The Ethernet form that a number names: 0 is EtherType, 1 Length.
+#[tactic(auto, unfolding(crate::specs::Named::form_of))]
+pub fn form_of(number: u8) -> Option<EthernetForm>
     ensures { result ≡ form_of number }
 {
-    if number == 0 {
-        return EthernetForm::EtherType;
-    }
-    EthernetForm::Length
+    named(EthernetForm::EtherType, EthernetForm::Length, number)
 }
 
-// The largest number of a time: 0 is no time, 1 a second.
-pub const LAST_TIME: u8 = 1;
-
-// The time of a number, 0 or 1, and a second, which 0 leaves aside; above 1 the last.
-pub fn time_of(timed: u8, second: u32) -> RecordTime
+// The time that a number and a second name: 0 is no time, whatever the second is, 1 the second.
+#[tactic(auto, unfolding(crate::specs::Named::time_of))]
+pub fn time_of(timed: u8, second: u32) -> Option<Option<u32>>
     ensures { result ≡ time_of second timed }
 {
-    if timed == 0 {
-        return RecordTime::None;
-    }
-    RecordTime::Second(second)
+    named(None, Some(second), timed)
 }
 
-// The number of an error.
-pub fn error_number(error: DataLinkError) -> u8
+// The number of an error; 0 where the Rust has none.
+pub fn error_number(error: Option<DataLinkError>) -> u8
     ensures { result ≡ error_number error }
 {
     match error {
-        DataLinkError::InvalidFrame => 1,
-        DataLinkError::CrcError => 2,
-        DataLinkError::Unmatched => 0,
+        Some(DataLinkError::InvalidFrame) => 1,
+        Some(DataLinkError::CrcError) => 2,
+        None => 0,
     }
 }

@@ -1,17 +1,19 @@
 -- The state after some octets and one more is the next state.
 -- Assumes nothing.
-use mathlib.Core.Path.{◌≡◌, refl, sym, ap, ◌∙◌}
+use mathlib.Core.Path.{◌≡◌, refl, sym, ap, subst, ◌∙◌}
 use mathlib.Core.Bool.{Bool, true, false}
 use mathlib.Core.List.{List, [], ◌∷◌, ◌++◌, reverse}
 use Prim.Native.Nat.{ℕ, zero, suc, ◌+◌, ◌-◌, ◌^◌, ◌≤◌, ◌<◌}
 use native.Mathlib.Omega.{arith}
 use native.Mathlib.Numerals.{add-one}
-use borrow.Author.Tests.{lt-ltb, le-ltb, lt-leb, le-leb, eq-eqb, ne_eqb, eqb-true, eqb-false}
+use borrow.Author.Tests.{lt-ltb, lt-leb, le-leb, eq-eqb, ne_eqb, eqb-true, eqb-false}
 use lib.Dec.{eqb}
 use lib.ListN.{length, get_or, drop, length-append}
 use lib.Seq.{get_or_at}
+use Rattle.std.specs.List.{fold}
+use Rattle.std.proofs.lemmas.List.{append_assoc, append-nil, get_or-reverse}
 use Rattle.runs.specs.Front.{is, front, equal_at_end}
-use Rattle.runs.proofs.Back.{same, get_d_reverse, back_le}
+use Rattle.runs.proofs.Back.{same, back_le}
 use Rattle.runs.proofs.More.{more_again, more_anew}
 use Rattle.padding.specs.Padding.{last, end_length, padding_length}
 use Rattle.padding.specs.State.{state, after, one_more, run_with, next, counted}
@@ -24,30 +26,22 @@ last_more s x = get_or_at s x [] 0 (length (s ++ (x ∷ [])) - 1) (omega (arith,
 
 pub last_behind : (s : List ℕ) → 2 ≤ length s → get_or (reverse (drop 1 s)) 0 0 ≡ last s
 last_behind [] h = absurd (omega arith)
-last_behind (y ∷ t) h = get_d_reverse t 0 (omega arith) ∙ same (y ∷ t) (suc (length t - 1 - 0)) (suc (length t) - 1) (omega arith)
+last_behind (y ∷ t) h = get_or-reverse t 0 0 (omega arith) ∙ same (y ∷ t) (suc (length t - 1 - 0)) (suc (length t) - 1) (omega arith)
 
--- the run with an octet more: the first octet, another octet, the same
-module _ (a : PaddingState) (x : ℕ) where
-  pub run_first : a.started ≡ false → 0 ≡ run_with a x
+-- the run with an octet more: another octet, the same
+module _ (a : PaddingState) (x : ℕ) (some : a.started ≡ true) where
+  run_anew : (x ≡ a.last → ⊥) → 1 ≡ run_with a x
   unfolding run_with
-  run_first e = rw e
+  run_anew d = rw (some, ne_eqb x a.last d)
 
-  pub run_anew : a.started ≡ true → (x ≡ a.last → ⊥) → 1 ≡ run_with a x
+  run_again : x ≡ a.last → one_more a.run ≡ run_with a x
   unfolding run_with
-  run_anew e d = rw (e, ne_eqb x a.last d)
+  run_again e = rw (some, eq-eqb x a.last e)
 
-  pub run_again : a.started ≡ true → x ≡ a.last → one_more a.run ≡ run_with a x
-  unfolding run_with
-  run_again e f = rw (e, eq-eqb x a.last f)
-
--- one more, as long as it is a number; the largest stays
-pub one_more_lem : (n : ℕ) → n + 1 < 2 ^ 64 → n + 1 ≡ one_more n
+-- one more, as long as it is a number
+one_more_lem : (n : ℕ) → n + 1 < 2 ^ 64 → n + 1 ≡ one_more n
 unfolding one_more
 one_more_lem n h = rw (lt-ltb n (2 ^ 64 - 1) (omega arith))
-
-pub largest : (n : ℕ) → n ≡ 2 ^ 64 - 1 → n ≡ one_more n
-unfolding one_more
-largest n e = rw (le-ltb n (2 ^ 64 - 1) (omega arith))
 
 -- an octet that equals the last one, behind the first
 again_behind : (y : ℕ) (t : List ℕ) (x : ℕ) → x ≡ last (y ∷ t) → equal_at_end (t ++ (x ∷ [])) ≡ suc (equal_at_end t)
@@ -57,8 +51,8 @@ again_behind y (z ∷ t) x e = more_again (z ∷ t) x (last_behind (y ∷ z ∷ 
 
 -- so the run is that of the octets and one more
 run_more : (s : List ℕ) (x : ℕ) → InMemory s → run_with (after s) x ≡ end_length (s ++ (x ∷ []))
-unfolding after end_length front
-run_more [] x fits = sym (run_first (after []) x refl)
+unfolding after end_length front run_with
+run_more [] x fits = refl
 run_more (y ∷ t) x fits = go (eqb x (last (y ∷ t))) refl
   where
     some : (after (y ∷ t)).started ≡ true
@@ -101,7 +95,7 @@ equals_state x (suc n) fits =
     ∙ ap (λ (a : PaddingState). next a x) (equals_state x n (omega arith))
     ∙ ap (state true x) (sym (run_again (state true x n) x refl refl) ∙ sym (one_more_lem n (omega arith)) ∙ add-one n)
 
-step_example : StepExample
+pub step_example : StepExample
 unfolding equals after end_length front
 step_example = record {
   one = λ x. refl;
@@ -113,39 +107,31 @@ step_example = record {
 }
 
 -- what the contract says of the next state
-pub is_next : (a : PaddingState) (x : ℕ) {n : ℕ} → n ≡ run_with a x → (state true x n ≡ next a x) × (Follows a x (state true x n) × StepExample)
-is_next a x e = rw e (refl, (λ s fits f. rw f (after_more s x fits), step_example))
+pub follows : (a : PaddingState) (x n : ℕ) → n ≡ run_with a x → Follows a x (state true x n)
+follows a x n e s fits f = rw (e, f) (after_more s x fits)
+
+-- steps one by one
+pub fold_after : (s : List ℕ) → InMemory s → fold next (after []) s ≡ after s
+fold_after s fits = go [] s fits
+  where
+    go : (front s : List ℕ) → InMemory (front ++ s) → fold next (after front) s ≡ after (front ++ s)
+    go front [] fits = rw append-nil
+    go front (x ∷ s) fits =
+        ap (λ (a : PaddingState). fold next a s) (after_more front x (omega (arith, length-append front (x ∷ s))))
+        ∙ subst (λ t. InMemory t → fold next (after (front ++ (x ∷ []))) s ≡ after t) (append_assoc front (x ∷ []) s) (go (front ++ (x ∷ [])) s) fits
 
 -- the padding of the octets so far: all of the run, or none
-module _ (a : PaddingState) where
-  counts : {n : ℕ} → n ≡ counted a → Counts a n
-  unfolding counted after padding_length
-  counts e s f = e ∙ rw f
+pub counts : (a : PaddingState) (n : ℕ) → n ≡ counted a → Counts a n
+unfolding counted after padding_length
+counts a n e s f = e ∙ rw f
 
-  all_counted : 4 ≤ a.run → a.run ≡ counted a
-  unfolding counted
-  all_counted h = rw (le-leb 4 a.run h)
-
-  none_counted : a.run < 4 → 0 ≡ counted a
-  unfolding counted
-  none_counted h = rw (lt-leb 4 a.run h)
-
-length_example : LengthExample
+pub length_example : LengthExample
+unfolding counted
 length_example = record {
   some = λ x n m h fits f.
       let e = sym (equals_state x n fits) in
-      f (equals x n) e ∙ sym (counts (state true x n) (all_counted (state true x n) h) (equals x n) e);
+      f (equals x n) e ∙ sym (counts (state true x n) n (rw (le-leb 4 n h)) (equals x n) e);
   few = λ x n m h f.
       let e = sym (equals_state x n (omega arith)) in
-      f (equals x n) e ∙ sym (counts (state true x n) (none_counted (state true x n) h) (equals x n) e);
+      f (equals x n) e ∙ sym (counts (state true x n) 0 (rw (lt-leb 4 n h)) (equals x n) e);
 }
-
--- what the contract says of it
-abbrev Counted : PaddingState → ℕ → Type 0
-Counted a n = (n ≡ counted a) × (Counts a n × LengthExample)
-
-pub counts_all : (a : PaddingState) → 4 ≤ a.run → Counted a a.run
-counts_all a h = let e = all_counted a h in (e, (counts a e, length_example))
-
-pub counts_none : (a : PaddingState) → a.run < 4 → Counted a 0
-counts_none a h = let e = none_counted a h in (e, (counts a e, length_example))

@@ -1,20 +1,50 @@
 -- Laws of the octets at the end that equal the last one, and of the padding.
 -- Assumes nothing.
 use mathlib.Core.Path.{◌≡◌, sym, ap, ◌∙◌}
-use mathlib.Core.Bool.{Bool, true, false, cond}
-use mathlib.Core.List.{List, reverse}
+use mathlib.Core.Bool.{Bool, true, false, cond, ◌&&◌}
+use mathlib.Core.List.{List, [], ◌∷◌, reverse}
 use Prim.Native.Nat.{ℕ, zero, suc, ◌+◌, ◌-◌, ◌≤◌, ◌<◌}
 use native.Mathlib.Omega.{arith}
-use borrow.Author.Tests.{le-leb}
-use lib.Dec.{leb}
-use lib.ListN.{length, get_or, drop, length-drop}
-use lib.Seq.{get_or-drop}
+use borrow.Author.Tests.{lt-leb, le-leb}
+use lib.Dec.{leb, leb-suc-suc, leb-suc-zero}
+use lib.ListN.{length, get_or, take, drop, length-drop}
+use lib.Seq.{get_or-drop, length-take-le}
+use Rattle.std.specs.List.{list_all}
 use Rattle.runs.specs.Front.{is, front}
 use Rattle.runs.proofs.Front.{is_eq, is_ne, is_true, is_false}
 use Rattle.runs.proofs.Back.{same, back_le, back_all, back_stops, back_is}
 use Rattle.padding.specs.Padding.{last, end_length, padding_length}
 use Rattle.padding.proofs.States.{last_behind}
+use Rattle.patterns.specs.Entries.{has_zeros}
 use Rattle.patterns.specs.Laws.{Padding}
+
+-- the first n octets all pass where that many in front do
+pub all_front : (p : ℕ → Bool) (s : List ℕ) (n : ℕ) → n ≤ length s → list_all p (take n s) ≡ leb n (front p s)
+unfolding front
+all_front p s zero h = sym (le-leb 0 (front p s) (omega arith))
+all_front p [] (suc n) h = absurd (omega arith)
+all_front p (x ∷ s) (suc n) h = go (p x) (all_front p s n (omega arith))
+  where
+    go : (b : Bool) → list_all p (take n s) ≡ leb n (front p s) → (b && list_all p (take n s)) ≡ leb (suc n) (cond b (suc (front p s)) 0)
+    go true e = e ∙ sym (leb-suc-suc n (front p s))
+    go false e = sym (leb-suc-zero n)
+
+-- the octets before the padding: fewer than 8, or as many zeros in front as there are
+module _ (s : List ℕ) {n : ℕ} (is-n : n ≡ padding_length s) {before : List ℕ} (is-before : before ≡ take (length s - n) s) where
+  size : length before ≡ length s - padding_length s
+  size = rw (is-before, is-n) (length-take-le (length s - padding_length s) s (omega arith))
+
+  pub few_before : length before < 8 → leb 8 (length before) ≡ has_zeros s
+  unfolding has_zeros
+  few_before h = rw (← size, lt-leb 8 (length before) h)
+
+  pub zeros_before : {r : Bool} → 8 ≤ length before → r ≡ list_all (is 0) before → r ≡ has_zeros s
+  unfolding has_zeros
+  zeros_before h all =
+      all
+      ∙ ap (list_all (is 0)) (is-before ∙ ap (λ (m : ℕ). take (length s - m) s) is-n)
+      ∙ all_front (is 0) s (length s - padding_length s) (omega arith)
+      ∙ rw (le-leb 8 (length s - padding_length s) (omega (arith, size)))
 
 module _ (s : List ℕ) where
   -- without the first octet, place j is place j + 1

@@ -1,10 +1,9 @@
 -- What the entries in the lent list are, said without `entries`: a further promise of `detect_patterns`.
 -- Assumes nothing.
-use Rattle.std.specs.Prelude.{ℕ, ◌+◌, ◌-◌, ◌*◌, ◌≤◌, ◌<◌, ◌≡◌, List, [], ◌∷◌, length, get_or, take, drop}
+use Rattle.std.specs.Prelude.{ℕ, ◌+◌, ◌-◌, ◌*◌, ◌≤◌, ◌<◌, ◌≡◌, List, [], ◌∷◌, length, get_or, take, drop, Result, IfOk}
+use Rattle.octets.specs.declared.refusal.Refusal.{Refusal}
 use Rattle.patterns.specs.Stretches.{Maximal}
 use Rattle.patterns.specs.Entries.{printable}
-use Rattle.octets.specs.declared.CountResult.{CountResult}
-use Rattle.octets.specs.Answer.{WhereCounted}
 
 -- the numbers of entry k of a list
 abbrev pub numbers_at : List ℕ → ℕ → List ℕ
@@ -20,8 +19,8 @@ pub record Shown (pattern : ℕ) (P : ℕ → ℕ → ℕ → Type 0) (n : ℕ) 
   pub every : (i m v : ℕ) → P i m v → (k : ℕ) × EntryAt pattern n l k i m v
 
 -- so it is where the answer is a count
-abbrev pub Shows : ℕ → (ℕ → ℕ → ℕ → Type 0) → CountResult → List ℕ → Type 0
-Shows pattern P answer l = WhereCounted answer (λ n. Shown pattern P n l)
+abbrev pub Shows : ℕ → (ℕ → ℕ → ℕ → Type 0) → Result ℕ Refusal → List ℕ → Type 0
+Shows pattern P answer l = IfOk answer (λ n. Shown pattern P n l)
 
 -- a padding: at least 4 octets v up to the end, index 0 not among them, which the octet before, if not at index 0, does not lengthen
 pub record Padding (s : List ℕ) (i m v : ℕ) : Type 0 where

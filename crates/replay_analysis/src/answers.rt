@@ -1,107 +1,84 @@
 // How answers are printed.
 use analysis::FrameAnalysis;
-use findings::{Finding, ValidationResult};
-use octets::AcceptResult;
+use findings::ValidationResult;
+use octets::Refusal;
 use padding::PaddingState;
 use replay_cases::print;
-use statistics::{FrameStatistics, StatisticsAnswer};
+use statistics::FrameStatistics;
 
 // The most numbers of a list that are printed.
 const MOST: usize = 60;
 
-// Prints v for valid, x for not.
-fn print_valid<P: Print>(to: &P, is_valid: bool) {
-    if is_valid {
-        print::letters(to, b"v");
-    } else {
-        print::letters(to, b"x");
-    }
+// Prints the three numbers of an entry.
+fn print_entry<P: Print>(to: &P, numbers: [usize; 3]) {
+    let [kind, first, second] = numbers;
+    print::number(to, kind, 1);
+    print::number(to, first, 6);
+    print::number(to, second, 6);
 }
 
-// Prints an entry.
-fn print_finding<P: Print>(to: &P, finding: Finding) {
-    print::number(to, finding.kind as usize, 1);
-    print::number(to, finding.first, 6);
-    print::number(to, finding.second, 6);
-}
-
-// Prints the entries of errors.
-fn print_errors<P: Print>(to: &P, errors: [Finding; 7]) {
-    print_finding(to, errors[0]);
-    print_finding(to, errors[1]);
-    print_finding(to, errors[2]);
-    print_finding(to, errors[3]);
-    print_finding(to, errors[4]);
-    print_finding(to, errors[5]);
-    print_finding(to, errors[6]);
-}
-
-// Prints the result of a validator.
+// Prints the result of a validator: v for valid, x for not, the link, the size, the counts and all entries.
 pub(crate) fn print_result<P: Print>(to: &P, res: ValidationResult) {
-    let link_type = res.link_type;
-    let errors = res.errors;
-    let warnings = res.warnings;
-    print_valid(to, res.is_valid);
-    print::number(to, link_type.to_u8() as usize, 1);
+    print::letters(to, if res.is_valid() { b"v" } else { b"x" });
+    print::number(to, usize::from(findings::link_number(res.link_type)), 1);
     print::number(to, res.frame_size, 6);
-    print::number(to, res.error_count, 1);
-    print::number(to, res.warning_count, 1);
-    print_errors(to, errors);
-    print_finding(to, warnings[0]);
-    print_finding(to, warnings[1]);
-}
-
-// Prints the count of a value, if it is there.
-fn print_value<P: Print>(to: &P, value: usize, count: u32) {
-    if count == 0 {
-        return;
+    print::number(to, res.errors.len(), 1);
+    print::number(to, res.warnings.len(), 1);
+    for error in res.errors.entries() {
+        print_entry(to, findings::entry_numbers(error));
     }
-    print::number(to, value, 2);
-    print::letters(to, b":");
-    print::digits(to, count as usize, 6);
-}
-
-// Prints the counts that are not 0.
-fn print_distribution<P: Print>(to: &P, byte_distribution: [u32; 256]) {
-    for value in 0..256 {
-        print_value(to, value, byte_distribution[value]);
+    for warning in res.warnings.entries() {
+        print_entry(to, findings::entry_numbers(warning));
     }
 }
 
-// Prints statistics.
+// Prints what stands for a result where there is none: zeros.
+fn print_no_result<P: Print>(to: &P) {
+    print::letters(to, b"x 0 000000 0 0");
+    for _ in 0..9 {
+        print_entry(to, [0, 0, 0]);
+    }
+}
+
+// Prints statistics, and the counts that are not 0.
 fn print_statistics<P: Print>(to: &P, statistics: FrameStatistics) {
-    let byte_distribution = statistics.byte_distribution;
     let longest_run = statistics.longest_run;
     print::number(to, statistics.null_bytes, 6);
     print::number(to, statistics.high_bytes, 6);
-    print::number(to, longest_run.octet as usize, 2);
+    print::number(to, usize::from(longest_run.octet), 2);
     print::number(to, longest_run.length, 6);
     print::number(to, longest_run.start, 6);
-    print_distribution(to, byte_distribution);
-}
-
-// Prints whether statistics were calculated.
-fn print_statistics_result<P: Print>(to: &P, res: AcceptResult) {
-    match res {
-        AcceptResult::Accepted => print::letters(to, b"F"),
-        AcceptResult::Refused(question) => print::refusal(to, question),
+    for (value, count) in statistics.byte_distribution.iter().enumerate() {
+        if *count != 0 {
+            print::number(to, value, 2);
+            print::letters(to, b":");
+            print::digits(to, *count as usize, 6);
+        }
     }
 }
 
+// Prints what stands for statistics where there are none: zeros.
+fn print_no_statistics<P: Print>(to: &P) {
+    print::letters(to, b" 000000 000000 00 000000 000000");
+}
+
 // Prints what the statistics answered.
-pub(crate) fn print_statistics_answer<P: Print>(to: &P, answer: StatisticsAnswer) {
-    let result = answer.result;
-    let statistics = answer.statistics;
-    print_statistics_result(to, result);
-    print_statistics(to, statistics);
+pub(crate) fn print_statistics_answer<P: Print>(to: &P, answer: Result<FrameStatistics, Refusal>) {
+    match answer {
+        Ok(statistics) => {
+            print::letters(to, b"F");
+            print_statistics(to, statistics);
+        }
+        Err(refusal) => {
+            print::refusal(to, refusal);
+            print_no_statistics(to);
+        }
+    }
 }
 
 // Prints a list of that size, or the front of a long one.
 pub(crate) fn print_list<P: Print>(to: &P, list: &[u32], size: usize) {
-    if MOST < size {
-        return print::list(to, list, MOST, 8);
-    }
-    print::list(to, list, size, 8);
+    print::list(to, list, size.min(MOST), 8);
 }
 
 // Prints a state's run, and how many octets are padding then.
@@ -113,20 +90,26 @@ fn print_state<P: Print>(to: &P, state: PaddingState) {
 // Prints the state after each octet, a step for each.
 pub(crate) fn print_steps<P: Print>(to: &P, frame: &[u8]) {
     let mut state = PaddingState::new();
-    for i in 0..frame.len() {
-        let more = state.step(frame[i]);
-        state = more;
-        print_state(to, more);
+    for octet in frame {
+        state = state.step(*octet);
+        print_state(to, state);
     }
 }
 
 // Prints what the analysis answered.
-pub(crate) fn print_analysis<P: Print>(to: &P, analysis: FrameAnalysis) {
-    let patterns = analysis.patterns;
-    let validation = analysis.validation;
-    let statistics = analysis.statistics;
-    print::count(to, b"F", patterns);
-    print::letters(to, b" ");
-    print_result(to, validation);
-    print_statistics(to, statistics);
+pub(crate) fn print_analysis<P: Print>(to: &P, answer: Result<FrameAnalysis, Refusal>) {
+    match answer {
+        Ok(analysis) => {
+            print::labelled(to, b"F", analysis.patterns, 4);
+            print::letters(to, b" ");
+            print_result(to, analysis.validation);
+            print_statistics(to, analysis.statistics);
+        }
+        Err(refusal) => {
+            print::refusal(to, refusal);
+            print::letters(to, b" ");
+            print_no_result(to);
+            print_no_statistics(to);
+        }
+    }
 }

@@ -1,6 +1,6 @@
 // What an answer is printed on, in lower case hexadecimal digits. No contract can say what was printed: these functions have
 // none.
-use octets::CountResult;
+use octets::Refusal;
 
 // Prints letters.
 pub fn letters<P: Print>(to: &P, letters: &[u8]) {
@@ -27,15 +27,15 @@ pub fn labelled<P: Print>(to: &P, label: &[u8], value: usize, least: usize) {
 }
 
 // Prints a refusal: E and the question.
-pub fn refusal<P: Print>(to: &P, question: u8) {
-    labelled(to, b"E", question as usize, 2);
+pub fn refusal<P: Print>(to: &P, refusal: Refusal) {
+    labelled(to, b"E", usize::from(u8::from(refusal)), 2);
 }
 
 // Prints a count behind its label, or the refusal.
-pub fn count<P: Print>(to: &P, label: &[u8], res: CountResult) {
+pub fn count<P: Print>(to: &P, label: &[u8], res: Result<usize, Refusal>) {
     match res {
-        CountResult::Count(count) => labelled(to, label, count, 4),
-        CountResult::Refused(question) => refusal(to, question),
+        Ok(count) => labelled(to, label, count, 4),
+        Err(e) => refusal(to, e),
     }
 }
 

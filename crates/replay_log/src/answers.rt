@@ -1,21 +1,21 @@
 // How answers are printed.
 use log_reading::RecordsCounted;
-use log_record::{LogRecord, RecordRead, RecordTime};
+use log_record::LogRecord;
+use octets::Refusal;
 use replay_cases::print;
 
 // Prints a time.
-fn print_time<P: Print>(to: &P, time: RecordTime) {
+fn print_time<P: Print>(to: &P, time: Option<u32>) {
     match time {
-        RecordTime::Second(second) => print::number(to, second as usize, 8),
-        RecordTime::None => print::letters(to, b" -"),
+        Some(second) => print::number(to, second as usize, 8),
+        None => print::letters(to, b" -"),
     }
 }
 
 // Prints a record and its payload.
 fn print_record<P: Print>(to: &P, record: LogRecord, payload: &[u8]) {
-    let time = record.time;
-    print::labelled(to, b"R", record.kind as usize, 2);
-    print_time(to, time);
+    print::labelled(to, b"R", usize::from(u8::from(record.kind)), 2);
+    print_time(to, record.time);
     print::number(to, record.start, 4);
     print::number(to, record.length, 4);
     print::letters(to, b" ");
@@ -23,18 +23,21 @@ fn print_record<P: Print>(to: &P, record: LogRecord, payload: &[u8]) {
 }
 
 // Prints what reading answered.
-pub(crate) fn print_read<P: Print>(to: &P, read: RecordRead, payload: &[u8]) {
+pub(crate) fn print_read<P: Print>(
+    to: &P,
+    read: Result<Option<LogRecord>, Refusal>,
+    payload: &[u8],
+) {
     match read {
-        RecordRead::Record(record) => print_record(to, record, payload),
-        RecordRead::StartReached => print::letters(to, b"S"),
-        RecordRead::Refused(question) => print::refusal(to, question),
+        Ok(Some(record)) => print_record(to, record, payload),
+        Ok(None) => print::letters(to, b"S"),
+        Err(refusal) => print::refusal(to, refusal),
     }
 }
 
 // Prints what a whole reading answered.
 pub(crate) fn print_counted<P: Print>(to: &P, counted: RecordsCounted) {
-    let last = counted.last;
     print::labelled(to, b"C", counted.count, 4);
     print::letters(to, b" ");
-    print_read(to, last, b"");
+    print_read(to, counted.last.map(|()| None), &[]);
 }

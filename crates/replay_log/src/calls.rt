@@ -3,7 +3,6 @@ ghost use Rattle.std.specs.Prelude.{◌≡◌, length};
 ghost use Rattle.io.specs.Counts.{IsPrefixLen};
 
 use crate::answers;
-use log_record::RecordTime;
 use replay_cases::{input, print};
 use std::io::Read;
 
@@ -40,25 +39,21 @@ fn space() -> [u8; 1520]
 fn payload<R: Read>(from: &mut R, out: &mut [u8]) -> usize
     ensures { IsPrefixLen result out.new }
 {
-    let count = input::number(from);
-    let first = input::octet(from);
-    let mut n = 0;
-    while n < out.len() {
-        if n == count {
-            return n;
-        }
-        out[n] = ((first as usize + n) % 256) as u8;
-        n += 1;
+    let n = input::number(from).min(out.len());
+    let mut next = input::octet(from);
+    for octet in &mut out[..n] {
+        *octet = next;
+        next = next.wrapping_add(1);
     }
     n
 }
 
 // Reads a time: a second behind the letter T, or another letter, which is no time.
-fn time<R: Read>(from: &mut R) -> RecordTime {
-    if input::letter(from) == b'T' {
-        return RecordTime::Second(input::long_number(from) as u32);
+fn time<R: Read>(from: &mut R) -> Option<u32> {
+    match input::letter(from) {
+        b'T' => Some(input::long_number(from) as u32),
+        _ => None,
     }
-    RecordTime::None
 }
 
 // Appends a record.

@@ -1,6 +1,7 @@
 // How the finder's answers are printed.
+use octets::Refusal;
 use replay_cases::print;
-use run_search::{FrameFound, Report};
+use run_search::Report;
 
 // Prints a report.
 fn print_report<P: Print>(to: &P, report: Report) {
@@ -9,10 +10,10 @@ fn print_report<P: Print>(to: &P, report: Report) {
 }
 
 // Prints what the finder answered.
-pub(crate) fn print_found<P: Print>(to: &P, found: FrameFound) {
+pub(crate) fn print_found<P: Print>(to: &P, found: Result<Option<Report>, Refusal>) {
     match found {
-        FrameFound::Frame(report) => print_report(to, report),
-        FrameFound::None => print::letters(to, b"N"),
-        FrameFound::Refused(question) => print::refusal(to, question),
+        Ok(Some(report)) => print_report(to, report),
+        Ok(None) => print::letters(to, b"N"),
+        Err(refusal) => print::refusal(to, refusal),
     }
 }

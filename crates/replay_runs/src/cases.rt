@@ -4,7 +4,6 @@ ghost use Rattle.std.specs.Prelude.{◌≤◌, ◌≡◌, length};
 use crate::{answers, pieces};
 use crc::CheckRule;
 use replay_cases::{input, print, spelling};
-use run_search::FrameFound;
 use std::io::Read;
 
 // What stands in the lent list before the call, and how many numbers behind it are looked at too.
@@ -43,24 +42,14 @@ fn answer_to<P: Print>(to: &P, kind: u8, rule: CheckRule, run: &[u8], number: us
     }
 }
 
-// Whether the finder's answer is a report.
-fn is_report(found: FrameFound) -> bool {
-    match found {
-        FrameFound::Frame(_) => true,
-        FrameFound::None => false,
-        FrameFound::Refused(_) => false,
-    }
-}
-
 // The reader's steps from a place, until one is no report; then the place where it stands.
 fn steps<P: Print>(to: &P, rule: CheckRule, run: &[u8], place: usize) {
     let mut at = place;
     for _ in 0..MOST_STEPS {
         let step = run_reader::step_at(rule, run, at);
-        let found = step.found;
         at = step.next;
-        answers::print_found(to, found);
-        if !is_report(found) {
+        answers::print_found(to, step.found);
+        if !matches!(step.found, Ok(Some(_))) {
             print::number(to, at, 4);
             return;
         }

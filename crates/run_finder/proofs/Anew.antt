@@ -54,7 +54,7 @@ unfolding acceptable from_u8 header_of
 passes rule f octets e =
     let a = facts rule f octets e in
     let both = both_true (eqb (length (mstp_errors rule f)) 0) (leb (frame_type f) 7) e in
-    let d = frame_back rule f refl (accepts rule f a.read) octets refl in
+    let d = frame_back rule f (accepts rule f a.read) octets refl in
     record {
       no_errors = none_is (mstp_errors rule f) (eqb-true (length (mstp_errors rule f)) 0 both.0);
       header = header_of f;

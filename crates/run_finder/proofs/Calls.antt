@@ -8,18 +8,18 @@ use borrow.Author.Tests.{leb-true}
 use lib.ListN.{length, drop}
 use Rattle.octets.specs.Question.{first_no}
 use Rattle.octets.proofs.Parts.{Octets}
-use Rattle.octets.proofs.Questions.{is_value, all_yes}
+use Rattle.octets.proofs.Questions.{all_yes}
+use Rattle.octets.proofs.Refusals.{ok_or_refused}
 use Rattle.crc.specs.declared.CheckRule.{CheckRule}
 use Rattle.run_search.specs.declared.Report.{Report}
-use Rattle.run_search.specs.declared.FrameFound.{FrameFound}
-use Rattle.run_search.specs.declared.FrameFound.TheVariants.{None, Refused}
+use Rattle.octets.specs.declared.refusal.Refusal.{Refusal}
+use Rattle.std.specs.Prelude.{Option, None, Result, Ok}
 use Rattle.run_search.specs.Search.{search_from}
 use Rattle.run_finder.specs.Find.{find_questions, find}
 use Rattle.run_finder.specs.Reading.{CallsGive, end, next, WholeReading, reading}
 use Rattle.run_finder.specs.Demand.{Demand3}
 use Rattle.run_finder.specs.Calls.{Called, none, more, Ended, Calls}
-use Rattle.run_search.proofs.Searches.{search_answers}
-use Rattle.run_finder.proofs.Finds.{find_search}
+use Rattle.run_finder.proofs.Finds.{is_value, find_search}
 use Rattle.run_finder.proofs.Pass.{onward, whole_reading}
 use Rattle.run_finder.proofs.Demand.{demand_3}
 
@@ -42,17 +42,16 @@ module _ (rule : CheckRule) (run : List ℕ) where
       inside (more {place = place} {r = r} before e) = (onward rule run fits octets place r e).2
 
       -- at "none" the reports are those of the whole reading
-      all : {rs : List Report} {place : ℕ} → Called rule run rs place → find rule run place ≡ None → rs ≡ reading rule run
+      all : {rs : List Report} {place : ℕ} → Called rule run rs place → find rule run place ≡ Ok None → rs ≡ reading rule run
       all {rs} before e = (whole_reading rule run fits octets).only rs (rw (append-nil rs) at (gives before (end e)))
 
     -- where the answer is "none", question 31 was passed
-    none_fits : (place : ℕ) → find rule run place ≡ None → length run ≤ 65535
-    unfolding find find_questions
+    none_fits : (place : ℕ) → find rule run place ≡ Ok None → length run ≤ 65535
+    unfolding find_questions
     none_fits place e =
-        let none-failed = (is_value Refused (search_from rule run place).found (first_no (find_questions run place)) e (λ k clash. let z : ◌≡◌ {A = ℕ} 0 1 = cc in omega arith)).0 in
-        leb-true (length run) 65535 (all_yes (find_questions run place) tt none-failed).0
+        leb-true (length run) 65535 (all_yes (find_questions run place) tt (is_value rule run place e).0).0
 
-    pub calls : (place : ℕ) {answer : FrameFound} → answer ≡ find rule run place → Calls rule run place answer
+    pub calls : (place : ℕ) {answer : Result (Option Report) Refusal} → answer ≡ find rule run place → Calls rule run place answer
     calls place e = record {
       goes = λ rs r before found. more before (sym e ∙ found);
       ends = λ rs at_none.
@@ -60,8 +59,8 @@ module _ (rule : CheckRule) (run : List ℕ) where
           let fits = none_fits place none in
           let same = all fits at_none.called none in
           (subst (WholeReading rule run) (sym same) (whole_reading rule run fits octets), subst (Demand3 rule run) (sym same) (demand_3 rule run octets));
-      taken = λ rs question before passed refused.
+      taken = λ rs refusal before passed refused.
           let fits = leb-true (length run) 65535 passed in
-          search_answers rule (drop place run) place question (sym (find_search rule run fits place (inside fits before)) ∙ sym e ∙ refused);
+          ok_or_refused (find_search rule run fits place (inside fits before)) (sym e ∙ refused);
       ended = λ passed. comes none (whole_reading rule run (leb-true (length run) 65535 passed) octets).read;
     }

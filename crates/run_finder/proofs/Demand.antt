@@ -1,6 +1,6 @@
 -- Demand 3 of every run: the reading ends, its late reports are the frames, and each report passes every check.
 -- Assumes nothing.
-use mathlib.Core.Path.{subst}
+use mathlib.Core.Path.{refl, subst}
 use mathlib.Core.List.{List, map, flatten, ◌++◌}
 use Prim.Native.Nat.{ℕ}
 use native.Mathlib.Omega.{arith}
@@ -24,7 +24,7 @@ module _ (rule : CheckRule) (run : List ℕ) (octets : Octets run) where
   each_passes : {place : ℕ} {rs : List Report} → CallsGive rule run place rs → Each (ReportPasses rule run) rs
   each_passes (end e) = tt
   each_passes {place} (next {r = r} e on) =
-      let found = (found_plain rule run octets place).reported r e in
+      let found = (found_plain rule run octets place e).reported r refl in
       let behind = drop r.place run in
       let there = length-take-le r.count behind (omega (arith, found.inside, length-drop r.place run)) in
       let octets-of = octets_take r.count behind (octets_drop r.place run octets) in

@@ -6,18 +6,18 @@ use Prim.Native.Nat.{ℕ, zero, suc, ◌+◌, ◌*◌, ◌≤◌, ◌<◌}
 use native.Mathlib.Omega.{arith}
 use borrow.Author.Tests.{le-leb}
 use lib.ListN.{length, drop, length-take}
+use Rattle.std.specs.Prelude.{Option, Some, None, Result, Ok, Err}
+use Rattle.octets.specs.declared.refusal.Refusal.{Refusal}
 use Rattle.octets.proofs.Parts.{Octets, octets_take, octets_drop}
+use Rattle.octets.proofs.Refusals.{ok_or_refused}
 use Rattle.crc.specs.declared.CheckRule.{CheckRule}
 use Rattle.run_search.specs.declared.Report.{Report}
-use Rattle.run_search.specs.declared.FrameFound.{FrameFound}
-use Rattle.run_search.specs.declared.FrameFound.TheVariants.{Frame, None, Refused}
 use Rattle.run_search.specs.Found.{octets_of}
 use Rattle.run_search.specs.Reports.{rest, reports, and_on}
 use Rattle.run_search.specs.Search.{end_of}
-use Rattle.run_finder.specs.Find.{find}
+use Rattle.run_finder.specs.Find.{find, report_in}
 use Rattle.run_search.proofs.Acceptables.{facts}
 use Rattle.run_search.proofs.Pass.{rest_search, few_rest}
-use Rattle.run_search.proofs.Searches.{search_answers}
 use Rattle.run_search.proofs.Whole.{reports_rest}
 use Rattle.run_finder.proofs.Finds.{find_search, found_plain}
 use Rattle.run_finder.specs.Reading.{CallsGive, end, next, WholeReading, within_calls, reading}
@@ -25,14 +25,14 @@ use Rattle.run_finder.specs.Reading.{CallsGive, end, next, WholeReading, within_
 module _ (rule : CheckRule) (run : List ℕ) where
   module _ (fits : length run ≤ 65535) where
     -- from a place on, the reports are the call's and those from its end on
-    pub rest_find : (place : ℕ) → place ≤ length run → rest rule run place ≡ and_on (find rule run place) (rest rule run)
+    pub rest_find : (place : ℕ) → place ≤ length run → rest rule run place ≡ and_on (report_in (find rule run place)) (rest rule run)
     rest_find place within = rw (find_search rule run fits place within) (rest_search rule run place)
 
     module _ (octets : Octets run) where
       -- a report goes on: it starts at the place or later, has at least 8 octets, and ends within the run
-      pub onward : (place : ℕ) (r : Report) → find rule run place ≡ Frame r → (place ≤ r.place) × (8 ≤ r.count) × (end_of r ≤ length run)
+      pub onward : (place : ℕ) (r : Report) → find rule run place ≡ Ok (Some r) → (place ≤ r.place) × (8 ≤ r.count) × (end_of r ≤ length run)
       onward place r e =
-          let f = (found_plain rule run octets place).reported r e in
+          let f = (found_plain rule run octets place e).reported r refl in
           let least = (facts rule (octets_of run r) (octets_take r.count (drop r.place run) (octets_drop r.place run octets)) f.passes).read.long in
           (f.behind, omega (arith, length-take r.count (drop r.place run)), f.inside)
 
@@ -44,10 +44,10 @@ module _ (rule : CheckRule) (run : List ℕ) where
           by (λ r inside more. within_calls_lem n (end_of r) inside more) (find rule run place) refl
         where
           by : ((r : Report) → end_of r ≤ length run → length run < end_of r + n → CallsGive rule run (end_of r) (within_calls rule run n (end_of r)))
-              → (answer : FrameFound) → find rule run place ≡ answer → CallsGive rule run place (and_on answer (within_calls rule run n))
-          by on (Frame r) e = let o = onward place r e in next e (on r o.2 (omega arith))
-          by on None e = end e
-          by on (Refused q) e = absurd (search_answers rule (drop place run) place q (sym (find_search rule run fits place within) ∙ e))
+              → (answer : Result (Option Report) Refusal) → find rule run place ≡ answer → CallsGive rule run place (and_on (report_in answer) (within_calls rule run n))
+          by on (Ok (Some r)) e = let o = onward place r e in next e (on r o.2 (omega arith))
+          by on (Ok None) e = end e
+          by on (Err refusal) e = absurd (ok_or_refused (find_search rule run fits place within) e)
 
       reading_ends : CallsGive rule run 0 (reading rule run)
       unfolding reading

@@ -1,17 +1,15 @@
 -- Demand 3: what the calls of a whole reading give of a run that begins with damage and is filled to its end by written frames.
 -- Assumes nothing.
-use Rattle.std.specs.Prelude.{◌≡◌, Bool, cond, true, ℕ, ◌+◌, ◌<◌, leb, length, drop}
+use Rattle.std.specs.Prelude.{◌≡◌, Bool, cond, true, ℕ, ◌+◌, ◌<◌, leb, length, drop, Some, Ok}
 use mathlib.Core.List.{List, [], ◌∷◌, ◌++◌, map, flatten}
 use Rattle.octets.specs.Output.{write_answer, write_output}
 use Rattle.octets.specs.Question.{is_yes, first_no}
 use Rattle.octets.specs.Size.{size_question}
 use Rattle.crc.specs.declared.CheckRule.{CheckRule}
 use Rattle.mstp_frame.specs.declared.MstpFrameType.{MstpFrameType}
-use Rattle.mstp_frame.specs.declared.FrameTypeRead.TheVariants.{Known}
 use Rattle.mstp_frame.specs.FrameType.{from_u8}
 use Rattle.mstp_decode.specs.Frame.{encode_frame}
 use Rattle.mstp_decode.specs.declared.MstpHeader.{MstpHeader}
-use Rattle.mstp_decode.specs.declared.MstpDecoded.TheVariants.{Frame}
 use Rattle.mstp_frame.specs.Fields.{begins_preamble, frame_type}
 use Rattle.mstp_decode.specs.Decode.{decode, frame_data}
 use Rattle.mstp_encode.specs.Encode.{data_question, room_question, encode_answer, encode_output}
@@ -77,8 +75,8 @@ WrittenAnew rule f header =
 pub record Passes (rule : CheckRule) (f : List ℕ) : Type 0 where
   pub no_errors : mstp_errors rule f ≡ []
   pub header : MstpHeader
-  pub accepted : decode rule f ≡ Frame header
-  pub known : from_u8 (frame_type f) ≡ Known header.frame_type
+  pub accepted : decode rule f ≡ Ok header
+  pub known : from_u8 (frame_type f) ≡ Some header.frame_type
   pub anew : WrittenAnew rule f header
 
 -- so do a report's octets, and they are as many as it says

@@ -1,10 +1,9 @@
 -- What a step of the reader is: the finder's answer from its place, and the place to go on from.
 -- Assumes nothing.
-use Rattle.std.specs.Prelude.{◌≡◌, ℕ, List, [], ◌∷◌, ◌++◌}
+use Rattle.std.specs.Prelude.{◌≡◌, ℕ, List, [], ◌∷◌, ◌++◌, Option, Some, None, Result, Ok, Err}
+use Rattle.octets.specs.declared.refusal.Refusal.{Refusal}
 use Rattle.crc.specs.declared.CheckRule.{CheckRule}
 use Rattle.run_search.specs.declared.Report.{Report}
-use Rattle.run_search.specs.declared.FrameFound.{FrameFound}
-use Rattle.run_search.specs.declared.FrameFound.TheVariants.{Frame, None, Refused}
 use Rattle.run_search.specs.Search.{end_of}
 use Rattle.run_finder.specs.Find.{find}
 use Rattle.run_finder.specs.Calls.{Called, Calls}
@@ -12,10 +11,10 @@ use Rattle.run_reader.specs.declared.Step.{Step}
 use Rattle.run_reader.specs.declared.FrameReader.{FrameReader}
 
 -- the place to go on from: behind a frame, and else the place itself
-abbrev pub after : FrameFound → ℕ → ℕ
-after (Frame r) place = end_of r
-after None place = place
-after (Refused question) place = place
+abbrev pub after : Result (Option Report) Refusal → ℕ → ℕ
+after (Ok (Some r)) place = end_of r
+after (Ok None) place = place
+after (Err refusal) place = place
 
 -- a step from a place: what the finder answers there, and the place to go on from
 unfoldable pub step_of : CheckRule → List ℕ → ℕ → Step
@@ -26,13 +25,13 @@ unfoldable pub moved_on : CheckRule → FrameReader → FrameReader
 moved_on rule r = record { run = r.run; place = (step_of rule r.run.now r.place).next }
 
 -- a reader that is left as it was where the answer is "none" or a refusal
-pub record Stays (answer : FrameFound) (before behind : FrameReader) : Type 0 where
-  pub none : answer ≡ None → behind ≡ before
-  pub refused : (question : ℕ) → answer ≡ Refused question → behind ≡ before
+pub record Stays (answer : Result (Option Report) Refusal) (before behind : FrameReader) : Type 0 where
+  pub none : answer ≡ Ok None → behind ≡ before
+  pub refused : (refusal : Refusal) → answer ≡ Err refusal → behind ≡ before
 
 -- what an answer means to whoever calls `next` under one rule, from `new` on until "none": what it means to a caller of the finder, and behind a
 -- report the reader is where such calls go on
-pub record Reads (rule : CheckRule) (answer : FrameFound) (before behind : FrameReader) : Type 0 where
+pub record Reads (rule : CheckRule) (answer : Result (Option Report) Refusal) (before behind : FrameReader) : Type 0 where
   pub calls : Calls rule before.run.now before.place answer
-  pub goes : (rs : List Report) (r : Report) → Called rule before.run.now rs before.place → answer ≡ Frame r
+  pub goes : (rs : List Report) (r : Report) → Called rule before.run.now rs before.place → answer ≡ Ok (Some r)
       → Called rule behind.run.now (rs ++ r ∷ []) behind.place

@@ -1,12 +1,11 @@
 -- What the functions for a whole reading answer, and what they leave in the lent list.
 -- Assumes nothing.
-use Rattle.std.specs.Prelude.{◌≡◌, true, List, [], ◌∷◌, ℕ, zero, suc, leb, length, get_or, drop}
-use Rattle.octets.specs.Answer.{count_result, WhereCounted}
+use Rattle.std.specs.Prelude.{◌≡◌, true, List, [], ◌∷◌, ℕ, zero, suc, leb, length, get_or, drop, Result, Ok, IfOk}
 use Rattle.octets.specs.Output.{write_output}
 use Rattle.octets.specs.Question.{ask, is_yes, first_no}
+use Rattle.octets.specs.Refusal.{result_of}
 use Rattle.octets.specs.Size.{size_question}
-use Rattle.octets.specs.declared.CountResult.{CountResult}
-use Rattle.octets.specs.declared.CountResult.TheVariants.{Count}
+use Rattle.octets.specs.declared.refusal.Refusal.{Refusal}
 use Rattle.crc.specs.declared.CheckRule.{CheckRule}
 use Rattle.run_search.specs.declared.Report.{Report}
 use Rattle.run_search.specs.Reports.{list_numbers}
@@ -14,16 +13,16 @@ use Rattle.run_search.specs.Search.{report}
 use Rattle.run_finder.specs.Reading.{reading}
 
 -- counting asks 31 alone, and answers the count of the reports
-unfoldable pub count_answer : CheckRule → List ℕ → CountResult
-count_answer rule run = count_result (first_no (size_question run ∷ [])) (length (reading rule run))
+unfoldable pub count_answer : CheckRule → List ℕ → Result ℕ Refusal
+count_answer rule run = result_of (first_no (size_question run ∷ [])) (length (reading rule run))
 
 -- where the answer is a count, it counts reports of which P holds
-abbrev pub CountOf : (List Report → Type 0) → CountResult → Type 0
-CountOf P answer = WhereCounted answer (λ n. (rs : List Report) × P rs × (length rs ≡ n))
+abbrev pub CountOf : (List Report → Type 0) → Result ℕ Refusal → Type 0
+CountOf P answer = IfOk answer (λ n. (rs : List Report) × P rs × (length rs ≡ n))
 
 -- every run that passes question 31, as those do that demand 3 speaks of, is counted
-abbrev pub Counted : CheckRule → List ℕ → CountResult → Type 0
-Counted rule run answer = is_yes (size_question run) ≡ true → answer ≡ Count (length (reading rule run))
+abbrev pub Counted : CheckRule → List ℕ → Result ℕ Refusal → Type 0
+Counted rule run answer = is_yes (size_question run) ≡ true → answer ≡ Ok (length (reading rule run))
 
 -- the first question that fails, or 0: 31, then 32: all reports fit into the lent list
 unfoldable pub read_question : CheckRule → List ℕ → List ℕ → ℕ
@@ -31,8 +30,8 @@ read_question rule run out =
     first_no (size_question run ∷ ask 32 (leb (length (list_numbers (reading rule run))) (length out)) ∷ [])
 
 -- the answer: the count of the reports, or the question
-unfoldable pub read_answer : CheckRule → List ℕ → List ℕ → CountResult
-read_answer rule run out = count_result (read_question rule run out) (length (reading rule run))
+unfoldable pub read_answer : CheckRule → List ℕ → List ℕ → Result ℕ Refusal
+read_answer rule run out = result_of (read_question rule run out) (length (reading rule run))
 
 -- the lent list afterwards: the reports' numbers at its front, or as it was
 unfoldable pub read_output : CheckRule → List ℕ → List ℕ → List ℕ
@@ -44,5 +43,5 @@ reports_in zero list = []
 reports_in (suc n) list = report (get_or list 0 0) (get_or list 1 0) ∷ reports_in n (drop 2 list)
 
 -- where the answer is a count, P holds of that many reports in front of the list
-abbrev pub Handed : (List Report → Type 0) → CountResult → List ℕ → Type 0
-Handed P answer list = WhereCounted answer (λ n. P (reports_in n list))
+abbrev pub Handed : (List Report → Type 0) → Result ℕ Refusal → List ℕ → Type 0
+Handed P answer list = IfOk answer (λ n. P (reports_in n list))

@@ -8,7 +8,7 @@ ghost use Rattle.run_finder.specs.Demand.{Demand3};
 
 use crc::CheckRule;
 use mstp_frame::MSTP_HEADER_SIZE;
-use octets::CountResult;
+use octets::Refusal;
 
 // How many frames a run has: none of them stored.
 fn count_reports(rule: CheckRule, run: &[u8]) -> usize
@@ -22,34 +22,32 @@ fn count_reports(rule: CheckRule, run: &[u8]) -> usize
 // How many frames a whole reading of a run finds, or the question that fails. Demand 3: of a run that begins with damage
 // and is filled to its end by written frames, the reports that start 510 or more octets after the damage are exactly the
 // frames that start there, and every report passes every check.
-pub fn count_frames(rule: CheckRule, run: &[u8]) -> CountResult
+pub fn count_frames(rule: CheckRule, run: &[u8]) -> Result<usize, Refusal>
     ensures value { result ≡ count_answer rule run.now }
     ensures calls { CountOf (WholeReading rule run.now) result }
     ensures covered { Counted rule run.now result }
     ensures demand { Demand3 rule run.now (reading rule run.now) }
 {
     if !octets::at_most_65535(run.len()) {
-        return CountResult::Refused(31);
+        return Err(Refusal::TooManyOctets);
     }
-    CountResult::Count(count_reports(rule, run))
+    Ok(count_reports(rule, run))
 }
 
 // Writes two numbers, place and octet count, for each frame of a whole reading at the front of `out`, whose rest stays,
 // and answers how many frames there are. Or answers the question that fails, and writes nothing.
-pub fn read_frames(rule: CheckRule, run: &[u8], out: &mut [u32]) -> CountResult
+pub fn read_frames(rule: CheckRule, run: &[u8], out: &mut [u32]) -> Result<usize, Refusal>
     ensures value { result ≡ read_answer rule run.now out.old }
     ensures output { out.new ≡ read_output rule run.now out.old }
     ensures calls { Handed (WholeReading rule run.now) result out.new }
     ensures demand { Handed (Demand3 rule run.now) result out.new }
 {
     if !octets::at_most_65535(run.len()) {
-        return CountResult::Refused(31);
+        return Err(Refusal::TooManyOctets);
     }
     // a frame has a header: a list with room for one in every 8 octets needs no counting
-    if out.len() / 2 < run.len() / MSTP_HEADER_SIZE {
-        if out.len() / 2 < count_reports(rule, run) {
-            return CountResult::Refused(32);
-        }
+    if out.len() / 2 < run.len() / MSTP_HEADER_SIZE && out.len() / 2 < count_reports(rule, run) {
+        return Err(Refusal::ListTooShort);
     }
-    CountResult::Count(run_search::store_reports(rule, run, out))
+    Ok(run_search::store_reports(rule, run, out))
 }

@@ -14,7 +14,7 @@ use Rattle.octets.proofs.Parts.{Octets}
 use Rattle.octets.proofs.Puts.{put_size, put_front, Putting, putting_start, putting_next, putting_end}
 use Rattle.crc.specs.declared.CheckRule.{CheckRule}
 use Rattle.run_search.specs.declared.Report.{Report}
-use Rattle.run_search.specs.declared.FrameFound.TheVariants.{Frame}
+use Rattle.std.specs.Prelude.{Some}
 use Rattle.run_search.specs.Reports.{rest, list_numbers}
 use Rattle.run_search.specs.Search.{report, search_from, size_at, next_frame}
 use Rattle.run_search.proofs.Next.{Next, next}
@@ -63,8 +63,8 @@ module _ {rule : CheckRule} {run before : List ℕ} {k n p : ℕ} {out : List �
 
   -- where p is a frame's place, the reports are this one and those from its end on
   module _ (frame : p < length run) {size : ℕ} (sized : size ≡ size_at run p) where
-    found : (search_from rule run past.place).found ≡ Frame (report p size)
-    found = means.frame frame ∙ ap (λ (i : ℕ). Frame (report p i)) (sym sized)
+    found : (search_from rule run past.place).found ≡ Some (report p size)
+    found = means.frame frame ∙ ap (λ (i : ℕ). Some (report p i)) (sym sized)
 
     goes : (past.place ≤ p) × (8 ≤ size) × (p + size ≤ length run)
     goes = search_onward rule run past.octets past.place (report p size) found

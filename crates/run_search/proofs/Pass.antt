@@ -13,7 +13,7 @@ use Rattle.crc.specs.declared.CheckRule.{CheckRule}
 use Rattle.mstp_frame.proofs.Sizes.{size_least}
 use Rattle.mstp_frame.specs.Fields.{data_length}
 use Rattle.run_search.specs.declared.Report.{Report}
-use Rattle.run_search.specs.declared.FrameFound.TheVariants.{Frame}
+use Rattle.std.specs.Prelude.{Some}
 use Rattle.run_search.specs.Acceptable.{acceptable, own_count, own_octets}
 use Rattle.run_search.specs.Found.{octets_of}
 use Rattle.run_search.specs.Reports.{pass, rest, and_on}
@@ -37,7 +37,7 @@ module _ (rule : CheckRule) (run : List ℕ) where
     where
       by : pass rule 0 (suc place) s ≡ and_on (search rule (suc place) s).found (rest rule run) → (b : Bool) (n : ℕ) → 0 < n
           → cond b (report place n ∷ pass rule (n - 1) (suc place) s) (pass rule 0 (suc place) s)
-          ≡ and_on (cond b (record { found = Frame (report place n); tried = 1 }) (one_more (search rule (suc place) s))).found (rest rule run)
+          ≡ and_on (cond b (record { found = Some (report place n); tried = 1 }) (one_more (search rule (suc place) s))).found (rest rule run)
       by on true n some =
           let at : suc place + (n - 1) ≡ place + n = omega arith in
           ap (λ (l : List Report). report place n ∷ l)
@@ -49,7 +49,7 @@ module _ (rule : CheckRule) (run : List ℕ) where
   rest_search place = pass_search (drop place run) place refl
 
   -- a report goes on: it starts at the place or later, has at least 8 octets, and ends within the run
-  pub search_onward : Octets run → (place : ℕ) (r : Report) → (search_from rule run place).found ≡ Frame r
+  pub search_onward : Octets run → (place : ℕ) (r : Report) → (search_from rule run place).found ≡ Some r
       → (place ≤ r.place) × (8 ≤ r.count) × (end_of r ≤ length run)
   search_onward octets place r e =
       let f = (search_plain rule run octets place).reported r e in

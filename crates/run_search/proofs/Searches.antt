@@ -1,7 +1,7 @@
 -- The search place by place: it goes on where no frame starts, and ends at the first that does.
 -- Assumes nothing.
 use mathlib.Core.Path.{◌≡◌, refl, ap}
-use mathlib.Core.Bool.{Bool, true, false, cond}
+use mathlib.Core.Bool.{true, false}
 use mathlib.Core.List.{List, [], ◌∷◌}
 use Prim.Native.Nat.{ℕ, suc, ◌≤◌, ◌<◌}
 use native.Mathlib.Numerals.{add-one}
@@ -9,7 +9,7 @@ use native.Mathlib.Omega.{arith}
 use lib.ListN.{length, drop, drop_of_length-le, length-drop}
 use lib.Seq.{drop-drop}
 use Rattle.crc.specs.declared.CheckRule.{CheckRule}
-use Rattle.run_search.specs.declared.FrameFound.TheVariants.{Frame, None, Refused}
+use Rattle.std.specs.Prelude.{Some, None}
 use Rattle.run_search.specs.Acceptable.{acceptable, own_count, own_octets}
 use Rattle.run_search.specs.Search.{report, one_more, search, search_from}
 
@@ -25,11 +25,11 @@ module _ (rule : CheckRule) (run : List ℕ) where
   search_end p h = rw (drop_of_length-le run {i = p} h)
 
   pub search_hit : (p : ℕ) → p < length run → acceptable rule (own_octets (drop p run)) ≡ true
-      → search_from rule run p ≡ record { found = Frame (report p (own_count (drop p run))); tried = 1 }
+      → search_from rule run p ≡ record { found = Some (report p (own_count (drop p run))); tried = 1 }
   unfolding search
   search_hit p h hit = by (drop p run) refl
     where
-      by : (s : List ℕ) → drop p run ≡ s → search rule p (drop p run) ≡ record { found = Frame (report p (own_count (drop p run))); tried = 1 }
+      by : (s : List ℕ) → drop p run ≡ s → search rule p (drop p run) ≡ record { found = Some (report p (own_count (drop p run))); tried = 1 }
       by [] e = absurd (omega (arith, ap length e, length-drop p run))
       by (x ∷ s) e =
           let some : acceptable rule (own_octets (x ∷ s)) ≡ true = rw e at hit in
@@ -45,14 +45,3 @@ module _ (rule : CheckRule) (run : List ℕ) where
       by (x ∷ s) e =
           let none : acceptable rule (own_octets (x ∷ s)) ≡ false = rw e at miss in
           rw (drop_tail run p x s e, e, none)
-
--- a search gives a report or none
-pub search_answers : (rule : CheckRule) (s : List ℕ) (place question : ℕ) → (search rule place s).found ≡ Refused question → ⊥
-unfolding search
-search_answers rule [] place question e = let z : ◌≡◌ {A = ℕ} 0 1 = cc in omega arith
-search_answers rule (x ∷ s) place question e = by (search_answers rule s (suc place) question) (acceptable rule (own_octets (x ∷ s))) e
-  where
-    by : ((search rule (suc place) s).found ≡ Refused question → ⊥) → (b : Bool)
-        → (cond b (record { found = Frame (report place (own_count (x ∷ s))); tried = 1 }) (one_more (search rule (suc place) s))).found ≡ Refused question → ⊥
-    by on true e = let z : ◌≡◌ {A = ℕ} 0 1 = cc in omega arith
-    by on false e = on e

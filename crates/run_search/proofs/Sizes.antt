@@ -1,15 +1,13 @@
 -- The octet count at a place: what the header there says, and at least 8.
 -- Assumes nothing.
-use mathlib.Core.Path.{◌≡◌, sym, ap, ◌∙◌}
+use mathlib.Core.Path.{◌≡◌}
 use mathlib.Core.Bool.{Bool, true, false, cond}
 use mathlib.Core.List.{List}
-use Prim.Native.Nat.{ℕ, ◌-◌, ◌≤◌, ◌<◌}
+use Prim.Native.Nat.{ℕ, ◌≤◌}
 use native.Mathlib.Omega.{arith}
-use borrow.Author.Tests.{le-leb, lt-leb}
+use borrow.Author.Tests.{le-leb}
 use lib.Dec.{leb}
-use lib.ListN.{length, take, drop, length-drop}
-use lib.Seq.{take_all}
-use Rattle.mstp_frame.specs.Size.{frame_size}
+use lib.ListN.{length, drop}
 use Rattle.mstp_frame.proofs.Sizes.{size_least}
 use Rattle.mstp_frame.specs.Fields.{data_length}
 use Rattle.run_search.specs.Acceptable.{own_count}
@@ -20,10 +18,6 @@ module _ (run : List ℕ) (p : ℕ) where
   unfolding size_at
   size_own long = rw (le-leb 8 (length (drop p run)) long)
 
-  pub size_short : length (drop p run) < 8 → 8 ≡ size_at run p
-  unfolding size_at
-  size_short few = rw (lt-leb 8 (length (drop p run)) few)
-
   pub size_8 : 8 ≤ size_at run p
   unfolding size_at
   size_8 = by (leb 8 (length (drop p run)))
@@ -31,9 +25,3 @@ module _ (run : List ℕ) (p : ℕ) where
       by : (b : Bool) → 8 ≤ cond b (own_count (drop p run)) 8
       by true = size_least (data_length (drop p run))
       by false = omega arith
-
-  -- where the length of a header is read
-  pub size_read : 8 ≤ length (drop p run) → {n size : ℕ} → n ≡ data_length (take (length run - p) (drop p run)) → size ≡ frame_size n
-      → size ≡ size_at run p
-  size_read long read sized =
-      sized ∙ ap frame_size (read ∙ rw (take_all (length run - p) (drop p run) (omega (arith, length-drop p run)))) ∙ sym (size_own long)

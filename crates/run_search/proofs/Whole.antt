@@ -21,8 +21,3 @@ module _ (rule : CheckRule) (run : List ℕ) where
         → (◌≡◌ {A = ℕ} 0 (length (reports rule run))) × (out ≡ at_front (list_numbers (take (length out / 2) (reports rule run))) out)
     unfolding reports list_numbers flat_map at_front
     none_stored long = rw (long, take-nil) (refl, refl)
-
-    pub all_stored : {n : ℕ} {after : List ℕ} → at_most_65535 (length run) ≡ true
-        → (n ≡ length (rest rule run 0)) × (after ≡ at_front (list_numbers (take (length out / 2) (rest rule run 0))) out)
-        → (n ≡ length (reports rule run)) × (after ≡ at_front (list_numbers (take (length out / 2) (reports rule run))) out)
-    all_stored fits stored = rw (reports_rest fits) stored

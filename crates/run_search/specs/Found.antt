@@ -1,10 +1,8 @@
 -- What the finder's answer means, place by place, and how many places the search tried: a further promise of `find_frame`.
 -- Assumes nothing.
-use Rattle.std.specs.Prelude.{◌≡◌, true, false, List, ℕ, suc, ◌-◌, ◌≤◌, ◌<◌, length, take, drop}
+use Rattle.std.specs.Prelude.{◌≡◌, true, false, List, ℕ, suc, ◌-◌, ◌≤◌, ◌<◌, length, take, drop, Option, Some, None}
 use Rattle.crc.specs.declared.CheckRule.{CheckRule}
 use Rattle.run_search.specs.declared.Report.{Report}
-use Rattle.run_search.specs.declared.FrameFound.{FrameFound}
-use Rattle.run_search.specs.declared.FrameFound.TheVariants.{Frame, None}
 use Rattle.run_search.specs.Acceptable.{acceptable}
 use Rattle.run_search.specs.Search.{end_of, search_from}
 
@@ -29,7 +27,7 @@ pub record NoneFrom (rule : CheckRule) (run : List ℕ) (place : ℕ) : Type 0 w
   pub none : (i : ℕ) → place ≤ i → NoneAt rule run i
   pub tried : (search_from rule run place).tried ≡ length run - place
 
--- what each answer but a refusal means
-pub record Found (rule : CheckRule) (run : List ℕ) (place : ℕ) (answer : FrameFound) : Type 0 where
-  pub reported : (r : Report) → answer ≡ Frame r → Reported rule run place r
+-- what each answer that is no refusal means
+pub record Found (rule : CheckRule) (run : List ℕ) (place : ℕ) (answer : Option Report) : Type 0 where
+  pub reported : (r : Report) → answer ≡ Some r → Reported rule run place r
   pub nothing : answer ≡ None → NoneFrom rule run place

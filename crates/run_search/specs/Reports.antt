@@ -1,12 +1,10 @@
 -- All the reports of a run, each acceptable frame behind the one before.
 -- Assumes nothing.
-use Rattle.std.specs.Prelude.{ℕ, zero, suc, ◌-◌, cond, length, drop}
+use Rattle.std.specs.Prelude.{ℕ, zero, suc, ◌-◌, cond, length, drop, Option, Some, None}
 use mathlib.Core.List.{List, [], ◌∷◌, flat_map}
 use Rattle.octets.specs.Size.{at_most_65535}
 use Rattle.crc.specs.declared.CheckRule.{CheckRule}
 use Rattle.run_search.specs.declared.Report.{Report}
-use Rattle.run_search.specs.declared.FrameFound.{FrameFound}
-use Rattle.run_search.specs.declared.FrameFound.TheVariants.{Frame, None, Refused}
 use Rattle.run_search.specs.Acceptable.{acceptable, own_count, own_octets}
 use Rattle.run_search.specs.Search.{report, report_numbers, end_of}
 
@@ -24,10 +22,9 @@ abbrev pub rest : CheckRule → List ℕ → ℕ → List Report
 rest rule run place = pass rule 0 place (drop place run)
 
 -- what an answer reports, and behind a report what is from its end on
-abbrev pub and_on : FrameFound → (ℕ → List Report) → List Report
-and_on (Frame r) on = r ∷ on (end_of r)
+abbrev pub and_on : Option Report → (ℕ → List Report) → List Report
+and_on (Some r) on = r ∷ on (end_of r)
 and_on None on = []
-and_on (Refused question) on = []
 
 -- those of a run of at most 65,535 octets; of a longer one none
 unfoldable pub reports : CheckRule → List ℕ → List Report

@@ -1,10 +1,8 @@
 -- The search for the first acceptable frame from a place on.
 -- Assumes nothing.
-use Rattle.std.specs.Prelude.{ℕ, suc, ◌+◌, cond, List, [], ◌∷◌, leb, length, drop}
+use Rattle.std.specs.Prelude.{ℕ, suc, ◌+◌, cond, List, [], ◌∷◌, leb, length, drop, Option, Some, None}
 use Rattle.crc.specs.declared.CheckRule.{CheckRule}
 use Rattle.run_search.specs.declared.Report.{Report}
-use Rattle.run_search.specs.declared.FrameFound.{FrameFound}
-use Rattle.run_search.specs.declared.FrameFound.TheVariants.{Frame, None, Refused}
 use Rattle.run_search.specs.Acceptable.{acceptable, own_count, own_octets}
 
 -- a report of n octets at a place
@@ -21,7 +19,7 @@ end_of r = r.place + r.count
 
 -- what a search gives: its answer, and the count of the places that it tried
 pub record Searched : Type 0 where
-  pub found : FrameFound
+  pub found : Option Report
   pub tried : ℕ
 
 -- the same with a place more tried
@@ -33,7 +31,7 @@ unfoldable pub search : CheckRule → ℕ → List ℕ → Searched
 search rule place [] = record { found = None; tried = 0 }
 search rule place (x ∷ s) =
     cond (acceptable rule (own_octets (x ∷ s)))
-    (record { found = Frame (report place (own_count (x ∷ s))); tried = 1 })
+    (record { found = Some (report place (own_count (x ∷ s))); tried = 1 })
     (one_more (search rule (suc place) s))
 
 -- the search of a run from a place on
@@ -45,10 +43,9 @@ unfoldable pub size_at : List ℕ → ℕ → ℕ
 size_at run place = cond (leb 8 (length (drop place run))) (own_count (drop place run)) 8
 
 -- the place of a report, or else another
-abbrev pub place_or : ℕ → FrameFound → ℕ
-place_or other (Frame r) = r.place
+abbrev pub place_or : ℕ → Option Report → ℕ
+place_or other (Some r) = r.place
 place_or other None = other
-place_or other (Refused question) = other
 
 -- the place of the first acceptable frame from a place on, or the run's length
 unfoldable pub next_frame : CheckRule → List ℕ → ℕ → ℕ

@@ -1,14 +1,12 @@
 -- Laws of the count of octets at the end that pass a test: those in front of the octets reversed.
 -- Assumes nothing.
-use mathlib.Core.Path.{◌≡◌, refl, ◌∙◌}
+use mathlib.Core.Path.{◌≡◌, ◌∙◌}
 use mathlib.Core.Bool.{Bool, true, false}
-use mathlib.Core.List.{List, [], ◌∷◌, ◌++◌, reverse, reverse-cons}
-use Prim.Native.Nat.{ℕ, suc, ◌+◌, ◌-◌, ◌≤◌, ◌<◌}
+use mathlib.Core.List.{List, reverse}
+use Prim.Native.Nat.{ℕ, ◌+◌, ◌-◌, ◌≤◌, ◌<◌}
 use native.Mathlib.Omega.{arith}
-use borrow.Author.Tests.{eqb-true, eqb-false}
-use lib.Dec.{eqb}
-use lib.ListN.{length, get_or, length-reverse, get_or-append}
-use lib.Seq.{get_or_at}
+use lib.ListN.{length, get_or, length-reverse}
+use Rattle.std.proofs.lemmas.List.{get_or-reverse}
 use Rattle.runs.specs.Front.{front}
 use Rattle.runs.proofs.Front.{front_le, front_all, front_stops, front_most, front_is}
 
@@ -16,25 +14,9 @@ use Rattle.runs.proofs.Front.{front_le, front_all, front_stops, front_most, fron
 pub same : (s : List ℕ) (i j : ℕ) → i ≡ j → get_or s i 0 ≡ get_or s j 0
 same s i j e = rw e
 
--- the octet at place k from the end
-pub get_d_reverse : (s : List ℕ) (k : ℕ) → k < length s → get_or (reverse s) k 0 ≡ get_or s (length s - 1 - k) 0
-get_d_reverse [] k h = absurd (omega arith)
-get_d_reverse (x ∷ s) k h = rw (reverse-cons x s) (go (eqb k (length s)) refl (get_d_reverse s k))
-  where
-    go : (b : Bool) → eqb k (length s) ≡ b → (k < length s → get_or (reverse s) k 0 ≡ get_or s (length s - 1 - k) 0)
-        → get_or (reverse s ++ (x ∷ [])) k 0 ≡ get_or (x ∷ s) (suc (length s) - 1 - k) 0
-    go true e more =
-        let f = eqb-true k (length s) e in
-        get_or_at (reverse s) x [] 0 k (omega (arith, length-reverse s)) ∙ same (x ∷ s) 0 (suc (length s) - 1 - k) (omega arith)
-    go false e more =
-        let f = eqb-false k (length s) e in
-        get_or-append (reverse s) (x ∷ []) 0 k (omega (arith, length-reverse s))
-        ∙ more (omega arith)
-        ∙ same (x ∷ s) (suc (length s - 1 - k)) (suc (length s) - 1 - k) (omega arith)
-
 module _ (p : ℕ → Bool) (s : List ℕ) where
   reversed : (j : ℕ) → j < length s → get_or (reverse s) (length s - 1 - j) 0 ≡ get_or s j 0
-  reversed j h = get_d_reverse s (length s - 1 - j) (omega arith) ∙ same s (length s - 1 - (length s - 1 - j)) j (omega arith)
+  reversed j h = get_or-reverse s (length s - 1 - j) 0 (omega arith) ∙ same s (length s - 1 - (length s - 1 - j)) j (omega arith)
 
   -- there are no more than octets
   pub back_le : front p (reverse s) ≤ length s
@@ -53,7 +35,7 @@ module _ (p : ℕ → Bool) (s : List ℕ) where
   -- where the last n pass, there are n at least
   module _ (n : ℕ) (h : n ≤ length s) (all : (j : ℕ) → j < length s → length s ≤ j + n → p (get_or s j 0) ≡ true) where
     passes : (k : ℕ) → k < n → p (get_or (reverse s) k 0) ≡ true
-    passes k l = rw (get_d_reverse s k (omega arith)) (all (length s - 1 - k) (omega arith) (omega arith))
+    passes k l = rw (get_or-reverse s k 0 (omega arith)) (all (length s - 1 - k) (omega arith) (omega arith))
 
     pub back_most : n ≤ front p (reverse s)
     back_most = front_most p (reverse s) n (omega (arith, length-reverse s)) passes
@@ -62,4 +44,4 @@ module _ (p : ℕ → Bool) (s : List ℕ) where
     pub back_is : ((j : ℕ) → j + 1 + n ≡ length s → p (get_or s j 0) ≡ false) → front p (reverse s) ≡ n
     back_is stop =
         let size = length-reverse s in
-        front_is p (reverse s) n (omega arith) passes (λ l. rw (get_d_reverse s n (omega arith)) (stop (length s - 1 - n) (omega arith)))
+        front_is p (reverse s) n (omega arith) passes (λ l. rw (get_or-reverse s n 0 (omega arith)) (stop (length s - 1 - n) (omega arith)))

@@ -11,12 +11,13 @@ use lib.ListN.{length, get_or, take}
 use lib.Seq.{get_or-take, length-take-le, take-take, take-length}
 use lib.Dec.{ltb}
 use borrow.Author.Tests.{lt-ltb, le-ltb, ltb-true, ltb-false}
+use Rattle.std.proofs.lemmas.List.{get_or-reverse}
 use Rattle.runs.specs.Front.{is, front, equal_at_end}
 use Rattle.runs.specs.Longest.{run, last_run, longer, longest_within, longest, OneValue, Longest, OnlyLongest}
 use Rattle.runs.specs.Example.{Leaves, Example}
 use Rattle.runs.specs.declared.Run.{Run}
 use Rattle.runs.proofs.Front.{is_eq, is_true}
-use Rattle.runs.proofs.Back.{same, get_d_reverse, back_le, back_all, back_most}
+use Rattle.runs.proofs.Back.{same, back_le, back_all, back_most}
 
 -- the second where it is longer, else the first
 pub longer_second : (a b : Run) → a.length < b.length → b ≡ longer a b
@@ -36,7 +37,7 @@ module _ (s : List ℕ) where
   ends_most i zero v e = omega arith
   ends_most i (suc n) v e =
       let x = get_or (reverse s) 0 0 in
-      let last : get_or s (i + n) 0 ≡ x = sym (get_d_reverse s 0 (omega arith) ∙ same s (length s - 1 - 0) (i + n) (omega arith)) in
+      let last : get_or s (i + n) 0 ≡ x = sym (get_or-reverse s 0 0 (omega arith) ∙ same s (length s - 1 - 0) (i + n) (omega arith)) in
       back_most (is x) s (suc n) (omega arith)
       (λ j h l. is_eq x (get_or s j 0) (same s j (i + (j - i)) (omega arith) ∙ v.1 (j - i) (omega arith) ∙ sym (v.1 n (omega arith)) ∙ last))
 

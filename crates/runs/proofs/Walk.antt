@@ -1,101 +1,86 @@
 -- A walk from octet to octet finds the longest run.
 -- Assumes nothing.
 use mathlib.Core.Path.{◌≡◌, refl, sym, ap, ◌∙◌}
-use Prim.Native.Nat.{ℕ, suc, ◌+◌, ◌-◌, ◌≤◌, ◌<◌}
+use Prim.Native.Nat.{ℕ, ◌+◌, ◌-◌, ◌≤◌, ◌<◌}
 use native.Mathlib.Omega.{arith}
 use native.Mathlib.Numerals.{add-one}
 use mathlib.Core.List.{List, [], ◌∷◌, ◌++◌, reverse}
-use lib.ListN.{length, get_or, take}
+use lib.ListN.{length, get_or, take, length-append}
 use lib.Seq.{length-take-le, take-suc}
-use Rattle.runs.specs.Front.{front, equal_at_end}
+use Rattle.runs.specs.Front.{is, equal_at_end}
 use Rattle.runs.specs.Longest.{run, last_run, longer, longest_within, longest, Longest, OnlyLongest}
 use Rattle.runs.specs.Example.{Example}
 use Rattle.runs.specs.declared.Run.{Run}
-use Rattle.runs.proofs.Back.{same}
+use Rattle.runs.proofs.Back.{back_le}
 use Rattle.runs.proofs.More.{more_last, more_again, more_anew}
 use Rattle.runs.proofs.Longest.{longer_first, longer_second, longest_law, only_longest, example}
 
--- the first i octets end with octets x from `start` on
-pub record Ends (s : List ℕ) (i start x : ℕ) : Type 0 where
-  pub count : start + equal_at_end (take i s) ≡ i
-  pub value : get_or (reverse (take i s)) 0 0 ≡ x
-
-pub ends_start : (s : List ℕ) → Ends s 0 0 0
-unfolding front
-ends_start s = record { count = refl; value = refl }
-
--- place and length of the longest run of the first i octets
-abbrev pub At : List ℕ → ℕ → ℕ → ℕ → Type 0
-At s i place n = (place ≡ (longest_within i s).start) × (n ≡ (longest_within i s).length)
-
-pub at_start : (s : List ℕ) → At s 0 0 0
-unfolding longest_within
-at_start s = (refl, refl)
+-- the parts of the run that some octets end with
+last_is : (s : List ℕ) {start octet n : ℕ} → n ≡ equal_at_end s → octet ≡ get_or (reverse s) 0 0 → start ≡ length s - n
+    → run start octet n ≡ last_run s
+unfolding last_run
+last_is s {start} {octet} {n} e f g = rw (g, f, e) refl
 
 -- one octet more
 module _ (s : List ℕ) (i : ℕ) (h : i < length s) where
+  size : length (take i s) ≡ i
+  size = length-take-le i s (omega arith)
+
   grown : take (i + 1) s ≡ take i s ++ (get_or s i 0 ∷ [])
   grown = rw (add-one i) (take-suc s i 0 h)
 
-  module _ {start x : ℕ} (e : Ends s i start x) where
-    pub ends_on : get_or s i 0 ≡ x → Ends s (i + 1) start x
-    ends_on f = record {
-      count = rw grown (omega (arith, more_again (take i s) (get_or s i 0) (e.value ∙ sym f), e.count));
-      value = rw grown (more_last (take i s) (get_or s i 0) ∙ f);
-    }
+  grown_size : length (take i s ++ (get_or s i 0 ∷ [])) ≡ i + 1
+  grown_size = omega (arith, length-append (take i s) (get_or s i 0 ∷ []), size)
 
-    pub ends_new : (get_or s i 0 ≡ x → ⊥) → Ends s (i + 1) i (get_or s i 0)
-    ends_new d = record {
-      count = rw grown (omega (arith, more_anew (take i s) (get_or s i 0) (λ l f. d (sym f ∙ e.value))));
-      value = rw grown (more_last (take i s) (get_or s i 0));
-    }
+  -- the run that they end with
+  module _ {last : Run} (e : last ≡ last_run (take i s)) where
+    length_is : last.length ≡ equal_at_end (take i s)
+    unfolding last_run
+    length_is = ap (λ (r : Run). r.length) e
 
-  -- so their longest run is the one before, or the run that they end with
-  walk_turn : {start x : ℕ} → Ends s (i + 1) start x → longer (longest_within i s) (run start x (i + 1 - start)) ≡ longest_within (i + 1) s
-  unfolding longest_within last_run
-  walk_turn {start} {x} ends =
-      let e : Ends s (suc i) start x = rw (add-one i) at ends in
-      let n : equal_at_end (take (suc i) s) ≡ suc i - start = omega (arith, e.count) in
-      let p : start ≡ suc i - (suc i - start) = omega (arith, e.count) in
-      rw (add-one i, n, e.value, length-take-le (suc i) s h) (ap (λ (k : ℕ). longer (longest_within i s) (run k x (suc i - start))) p)
+    octet_is : last.octet ≡ get_or (reverse (take i s)) 0 0
+    unfolding last_run
+    octet_is = ap (λ (r : Run). r.octet) e
 
-  -- place and length of the new one, or of the one before
-  module _ {place n start x : ℕ} (b : At s i place n) (ends : Ends s (i + 1) start x) where
-    pub at_new : n < i + 1 - start → At s (i + 1) start (i + 1 - start)
-    at_new l =
-        let e = longer_second (longest_within i s) (run start x (i + 1 - start)) (rw b.1 at l) ∙ walk_turn ends in
-        (ap (λ (r : Run). r.start) e, ap (λ (r : Run). r.length) e)
+    start_is : last.start ≡ i - last.length
+    unfolding last_run
+    start_is = omega (arith, ap (λ (r : Run). r.start) e, length_is, size)
 
-    pub at_on : i + 1 - start ≤ n → At s (i + 1) place n
-    at_on l =
-        let e = longer_first (longest_within i s) (run start x (i + 1 - start)) (rw b.1 at l) ∙ walk_turn ends in
-        (b.0 ∙ ap (λ (r : Run). r.start) e, b.1 ∙ ap (λ (r : Run). r.length) e)
+    pub length_fits : last.length ≤ i
+    length_fits = omega (arith, length_is, size, back_le (is (get_or (reverse (take i s)) 0 0)) (take i s))
+
+    pub last_on : get_or s i 0 ≡ last.octet → run last.start last.octet (last.length + 1) ≡ last_run (take (i + 1) s)
+    last_on f =
+        rw grown
+        (last_is (take i s ++ (get_or s i 0 ∷ []))
+        (omega (arith, length_is, more_again (take i s) (get_or s i 0) (sym octet_is ∙ sym f)))
+        (sym f ∙ sym (more_last (take i s) (get_or s i 0)))
+        (omega (arith, start_is, length_fits, grown_size)))
+
+    pub last_new : (get_or s i 0 ≡ last.octet → ⊥) → run i (get_or s i 0) 1 ≡ last_run (take (i + 1) s)
+    last_new f =
+        rw grown
+        (last_is (take i s ++ (get_or s i 0 ∷ []))
+        (sym (more_anew (take i s) (get_or s i 0) (λ l g. f (sym g ∙ sym octet_is))))
+        (sym (more_last (take i s) (get_or s i 0)))
+        (omega (arith, grown_size)))
+
+  -- and the longest: that one where it is longer
+  module _ {best last : Run} (b : best ≡ longest_within i s) (e : last ≡ last_run (take (i + 1) s)) where
+    longest_is : longest_within (i + 1) s ≡ longer best last
+    unfolding longest_within
+    longest_is = rw (b, e, add-one i) refl
+
+    pub longest_new : best.length < last.length → last ≡ longest_within (i + 1) s
+    longest_new l = longer_second best last l ∙ sym longest_is
+
+    pub longest_on : last.length ≤ best.length → best ≡ longest_within (i + 1) s
+    longest_on l = longer_first best last l ∙ sym longest_is
 
 -- what the contract says of a run
 abbrev Found : List ℕ → Run → Type 0
 Found s r = (r ≡ longest s) × (Longest s r × (OnlyLongest s r × Example))
 
-found : (s : List ℕ) {r : Run} → r ≡ longest s → Found s r
+-- after the last octet it is the longest run
+pub found : (s : List ℕ) {r : Run} → r ≡ longest s → Found s r
 found s e = rw e (refl, (longest_law s, (only_longest s, example)))
-
--- of no octets
-pub no_octets : (s : List ℕ) → length s ≡ 0 → Found s (run 0 0 0)
-unfolding longest_within
-no_octets s none = found s (ap (λ (k : ℕ). longest_within k s) (sym none))
-
--- after the last octet the place is that of the longest run
-module _ (s : List ℕ) {i place n : ℕ} (h : i ≤ length s) (l : length s ≤ i) (b : At s i place n) where
-  at_end : At s (length s) place n
-  at_end = let e : i ≡ length s = omega arith in rw e at b
-
-  pub place_inside : 0 < length s → place < length s
-  place_inside some =
-      let r = longest_law s in
-      let one = r.most 0 1 (omega arith, λ k m. same s (0 + k) 0 (omega arith)) in
-      omega (arith, at_end.0, r.same.0)
-
-  pub is_longest : Found s (run place (get_or s place 0) n)
-  is_longest =
-      let e = at_end in
-      let x = (longest_law s).value in
-      found s (rw (e.0, e.1, ← x))

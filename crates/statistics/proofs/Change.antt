@@ -8,23 +8,24 @@ use mathlib.Core.Bool.{Bool, true, false}
 use mathlib.Core.List.{List, [], ◌∷◌, ◌++◌}
 use lib.ListN.{length, get_or, set, replicate, length-append, length-replicate, get_or-replicate, replicate-append-replicate, get_or-append}
 use lib.Seq.{set_at, get_or_at, get_or-append-add}
+use Rattle.std.specs.Prelude.{Ok}
 use Rattle.octets.specs.Size.{at_most_65535}
 use Rattle.octets.specs.Change.{DifferAt}
 use Rattle.octets.proofs.Change.{every_change, differ_back}
-use Rattle.octets.proofs.Questions.{passed, ended, acceptance}
+use Rattle.octets.proofs.Refusals.{passes, ends}
 use Rattle.runs.specs.Front.{is, count}
 use Rattle.runs.specs.Longest.{longest, OneValue}
 use Rattle.runs.proofs.Back.{same}
 use Rattle.runs.proofs.Count.{count_between}
 use Rattle.runs.proofs.Change.{count_change, run_change}
 use Rattle.runs.proofs.Longest.{longest_law}
-use Rattle.statistics.specs.Statistics.{null_bytes, high_bytes, frame_statistics, calculated, refused, statistics_question, statistics}
+use Rattle.statistics.specs.Statistics.{null_bytes, high_bytes, frame_statistics, statistics_question, statistics}
 use Rattle.statistics.specs.Change.{Near, OneChanged, parted, Farthest, Reached}
 
 -- the statistics of octets that question 31 takes
-pub taken : (s : List ℕ) → at_most_65535 (length s) ≡ true → calculated (frame_statistics s) ≡ statistics s
+pub taken : (s : List ℕ) → at_most_65535 (length s) ≡ true → Ok (frame_statistics s) ≡ statistics s
 unfolding statistics statistics_question
-taken s h = acceptance refused (calculated (frame_statistics s)) (passed 31 [] h ended) refl
+taken s h = passes (frame_statistics s) 31 [] h (ends (frame_statistics s))
 
 -- zeros and high octets fall by at most 1
 module _ (s t : List ℕ) (place : ℕ) (d : DifferAt place s t) where

@@ -1,40 +1,28 @@
 -- Laws of the distribution: its entries, and counting up in one walk.
 -- Assumes nothing.
-use mathlib.Core.Path.{◌≡◌, refl, sym, ap, ◌∙◌}
-use Prim.Native.Nat.{ℕ, zero, suc, ◌+◌, ◌≤◌, ◌<◌}
+use mathlib.Core.Path.{◌≡◌, refl, sym, ◌∙◌}
+use Prim.Native.Nat.{ℕ, ◌+◌, ◌≤◌, ◌<◌}
 use native.Mathlib.Omega.{arith}
-use native.Mathlib.Nat.{add-zero, add-suc, suc-add}
 use mathlib.Core.Bool.{Bool, true, false}
-use mathlib.Core.List.{List, map}
-use lib.ListN.{length, get_or, set, drop, length-set, length-map, replicate, get_or-replicate, length-replicate}
+use mathlib.Core.List.{List}
+use lib.ListN.{length, get_or, set, drop, length-set, replicate, get_or-replicate, length-replicate}
 use lib.Seq.{ext_get_or, get_or-set_same, get_or-set_other}
+use Rattle.std.proofs.lemmas.List.FromFn.{length-map-range_with_len, get_or-map-range_with_len}
 use Rattle.runs.specs.Front.{is, count}
 use Rattle.runs.proofs.Front.{is_true, is_false}
 use Rattle.runs.proofs.Count.{count_le, count_turn, count_end}
-use Rattle.statistics.specs.Statistics.{values_from, counts_from, byte_distribution}
-
--- their number, and what a function gives for each
-length_values : (a n : ℕ) → length (values_from a n) ≡ n
-unfolding values_from
-length_values a zero = refl
-length_values a (suc n) = ap suc (length_values (suc a) n)
-
-map_values : (f : ℕ → ℕ) (a n i : ℕ) → i < n → get_or (map f (values_from a n)) i 0 ≡ f (a + i)
-unfolding values_from
-map_values f a zero i h = absurd (omega arith)
-map_values f a (suc n) zero h = rw (add-zero a)
-map_values f a (suc n) (suc i) h = map_values f (suc a) n i (omega arith) ∙ rw (add-suc a i, suc-add a i)
+use Rattle.statistics.specs.Statistics.{counts_from, byte_distribution}
 
 module _ (s : List ℕ) where
   -- there are 256 entries
   distribution_length : length (byte_distribution s) ≡ 256
   unfolding byte_distribution counts_from
-  distribution_length = length-map (values_from 0 256) (λ v. count (is v) s) ∙ length_values 0 256
+  distribution_length = length-map-range_with_len (λ v. count (is v) s) 0 256
 
   -- entry v is the count of v
   pub distribution_at : (v : ℕ) → v < 256 → get_or (byte_distribution s) v 0 ≡ count (is v) s
   unfolding byte_distribution counts_from
-  distribution_at v h = map_values (λ v. count (is v) s) 0 256 v h ∙ ap (λ (z : ℕ). count (is z) s) (omega arith)
+  distribution_at v h = get_or-map-range_with_len (λ v. count (is v) s) 0 256 v v 0 h (omega arith)
 
   -- the counts are those of the octets before place i
   pub record Counted (counts : List ℕ) (i : ℕ) : Type 0 where

@@ -1,10 +1,10 @@
 -- What one changed octet can do to the statistics.
 -- Assumes nothing.
-use Rattle.std.specs.Prelude.{◌≡◌, List, ◌∷◌, ◌++◌, ℕ, ◌+◌, ◌*◌, ◌≤◌, ◌<◌, length, get_or, set, replicate}
+use Rattle.std.specs.Prelude.{◌≡◌, List, ◌∷◌, ◌++◌, ℕ, ◌+◌, ◌*◌, ◌≤◌, ◌<◌, length, get_or, set, replicate, Ok}
 use Rattle.octets.specs.Change.{DifferAt, DifferInOne}
 use Rattle.runs.specs.Longest.{longest}
 use Rattle.statistics.specs.declared.FrameStatistics.{FrameStatistics}
-use Rattle.statistics.specs.Statistics.{null_bytes, high_bytes, calculated, statistics}
+use Rattle.statistics.specs.Statistics.{null_bytes, high_bytes, statistics}
 
 -- counts that differ by at most 1
 abbrev pub ByAtMost1 : ℕ → ℕ → Type 0
@@ -23,7 +23,7 @@ pub record Near (t u : FrameStatistics) : Type 0 where
 -- octets that differ from s in exactly one have statistics too, and these are near to t
 abbrev pub OneChanged : List ℕ → FrameStatistics → Type 0
 OneChanged s t =
-    (other : List ℕ) → DifferInOne s other → (u : FrameStatistics) × ((statistics other ≡ calculated u) × Near t u)
+    (other : List ℕ) → DifferInOne s other → (u : FrameStatistics) × ((statistics other ≡ Ok u) × Near t u)
 
 -- n octets FF, one of 00, and n more
 abbrev pub parted : ℕ → List ℕ
@@ -48,4 +48,4 @@ pub record Reached : Type 0 where
       → OneChanged s t
       → place < length s
       → (octet ≡ get_or s place 0 → ⊥)
-      → (u : FrameStatistics) × ((statistics (set s place octet) ≡ calculated u) × Near t u)
+      → (u : FrameStatistics) × ((statistics (set s place octet) ≡ Ok u) × Near t u)

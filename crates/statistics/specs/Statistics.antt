@@ -1,22 +1,18 @@
 -- The statistics of a frame: how often each value occurs, zeros, high octets, the longest run (question 31).
 -- Assumes nothing.
-use Rattle.std.specs.Prelude.{ℕ, zero, suc, List, [], ◌∷◌, map, leb, replicate}
-use Rattle.octets.specs.Question.{first_no, answered}
-use Rattle.runs.specs.Front.{is, count}
-use Rattle.runs.specs.Longest.{run, longest}
+use Rattle.std.specs.Prelude.{ℕ, List, [], ◌∷◌, map, leb, Result}
+use Rattle.std.specs.List.{range_with_len}
+use Rattle.octets.specs.Question.{first_no}
+use Rattle.octets.specs.Refusal.{result_of}
 use Rattle.octets.specs.Size.{size_question}
-use Rattle.octets.specs.declared.AcceptResult.TheVariants.{Accepted, Refused}
+use Rattle.octets.specs.declared.refusal.Refusal.{Refusal}
+use Rattle.runs.specs.Front.{is, count}
+use Rattle.runs.specs.Longest.{longest}
 use Rattle.statistics.specs.declared.FrameStatistics.{FrameStatistics}
-use Rattle.statistics.specs.declared.StatisticsAnswer.{StatisticsAnswer}
-
--- n values, one after another, from a on
-unfoldable pub values_from : ℕ → ℕ → List ℕ
-values_from a zero = []
-values_from a (suc n) = a ∷ values_from (suc a) n
 
 -- for each of n values from a on, how many octets have it
 unfoldable pub counts_from : ℕ → ℕ → List ℕ → List ℕ
-counts_from a n s = map (λ v. count (is v) s) (values_from a n)
+counts_from a n s = map (λ v. count (is v) s) (range_with_len a n)
 
 -- for each value from 00 to FF, how many octets have it
 unfoldable pub byte_distribution : List ℕ → List ℕ
@@ -39,33 +35,10 @@ frame_statistics s = record {
   longest_run = longest s;
 }
 
--- zeros: what stands where nothing was counted
-abbrev pub no_statistics : FrameStatistics
-no_statistics = record {
-  byte_distribution = replicate 256 0;
-  null_bytes = 0;
-  high_bytes = 0;
-  longest_run = run 0 0 0;
-}
-
--- an answer with statistics
-abbrev pub calculated : FrameStatistics → StatisticsAnswer
-calculated t = record {
-  result = Accepted;
-  statistics = t;
-}
-
--- an answer that refuses
-abbrev pub refused : ℕ → StatisticsAnswer
-refused q = record {
-  result = Refused q;
-  statistics = no_statistics;
-}
-
 -- the question that some octets fail, or 0
 unfoldable pub statistics_question : List ℕ → ℕ
 statistics_question s = first_no (size_question s ∷ [])
 
 -- what the statistics answer
-unfoldable pub statistics : List ℕ → StatisticsAnswer
-statistics s = answered refused (statistics_question s) (calculated (frame_statistics s))
+unfoldable pub statistics : List ℕ → Result FrameStatistics Refusal
+statistics s = result_of (statistics_question s) (frame_statistics s)

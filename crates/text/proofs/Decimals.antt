@@ -2,15 +2,16 @@
 -- Assumes nothing.
 use mathlib.Core.Path.{◌≡◌, refl, ap, ◌∙◌}
 use mathlib.Core.Bool.{Bool, true, false, cond}
-use mathlib.Core.List.{[], ◌∷◌}
-use Prim.Native.Nat.{ℕ, zero, suc, ◌-◌, ◌/◌, ◌%◌, ◌^◌, ◌≤◌, ◌<◌}
+use mathlib.Core.List.{List, [], ◌∷◌, ◌++◌}
+use Prim.Native.Nat.{ℕ, zero, suc, ◌+◌, ◌-◌, ◌/◌, ◌%◌, ◌^◌, ◌≤◌, ◌<◌}
 use native.Mathlib.Nat.{one-le-pow}
 use native.Mathlib.Omega.{arith}
 use borrow.Author.Tests.{lt-ltb, le-ltb}
 use lib.Dec.{ltb}
-use lib.ListN.{length, length-append}
+use lib.Seq.{take_at}
+use lib.ListN.{length, take, length-append}
 use Rattle.io.specs.Digits.{last_digits, hex_digit_ascii, IsDigitCount}
-use Rattle.text.specs.Text.{places, decimal, field}
+use Rattle.text.specs.Text.{letters, places, decimal, field}
 
 -- k digits are k octets
 length_digits : (k n : ℕ) → length (last_digits 10 k n) ≡ k
@@ -59,3 +60,7 @@ fewest_decimal n p few = ap (λ (k : ℕ). last_digits 10 k n) (fewest_places n 
 pub length_field : (j n : ℕ) → n < 10 ^ suc j → length (field n) ≤ suc (suc j)
 unfolding decimal field
 length_field j n less = omega (arith, length_digits (places n n) n, places_most n j n less)
+
+-- digits behind a space
+pub space_and : (digits rest : List ℕ) (k : ℕ) → length digits ≡ k → take (1 + k) (letters " " ++ (digits ++ rest)) ≡ letters " " ++ digits
+space_and digits rest k e = take_at (letters " " ++ digits) rest (1 + k) (omega (arith, e))

@@ -1,11 +1,10 @@
 -- Texts put one behind another by calls that answer as `octets::put` does.
 -- Assumes nothing.
-use mathlib.Core.Path.{◌≡◌, sym, ap₂, subst, ◌∙◌}
-use mathlib.Core.List.{List, [], ◌∷◌, ◌++◌}
+use mathlib.Core.Path.{◌≡◌, sym, subst}
+use mathlib.Core.List.{List, [], ◌∷◌}
 use Prim.Native.Nat.{ℕ, ◌+◌, ◌≤◌}
 use native.Mathlib.Omega.{arith}
-use lib.ListN.{length, take, drop, length-append}
-use lib.Seq.{sets-eq, take_at, length-take-le}
+use lib.ListN.{length}
 use Rattle.octets.specs.Put.{Put, put_place, put_output}
 use Rattle.octets.proofs.Puts.{put_call, put_more, put_is, put_nothing, room_front, room_more}
 use Rattle.text.specs.Text.{texts}
@@ -27,11 +26,3 @@ pub puts : (text : List ℕ) {xs : List (List ℕ)} {a c : List ℕ} {at n : ℕ
     → Put text a at c n
 puts text {a = a} {at = at} turns same room =
     put_is same (all_put turns (subst (λ (l : List ℕ). at + length l ≤ length a) (sym same) room))
-
--- up to the place behind it stands what stood before the place, and then what was put
-pub put_up_to : {xs before after : List ℕ} {at r : ℕ} → Put xs before at after r → take r after ≡ take at before ++ xs
-put_up_to {xs} {before} {after} {at} {r} put =
-    let room : at + length xs ≤ length before = omega (arith, put.place, put.fits) in
-    ap₂ (λ (n : ℕ) (l : List ℕ). take n l) put.place (put.list ∙ sets-eq xs before at room)
-    ∙ take_at (take at before ++ xs) (drop (at + length xs) before) (at + length xs)
-    (omega (arith, length-append (take at before) xs, length-take-le at before (omega arith)))

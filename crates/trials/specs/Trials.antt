@@ -1,21 +1,18 @@
 -- Document 01's trials, (a) to (k), as one table over the definitions that the contracts cite.
 -- Assumes nothing.
-use Rattle.std.specs.Prelude.{ℕ, true, List, [], ◌∷◌, ◌++◌, drop, replicate}
-use Rattle.octets.specs.declared.CountResult.{CountResult}
-use Rattle.octets.specs.declared.CountResult.TheVariants.{Count as Wrote, Refused as NotWritten}
+use Rattle.std.specs.Prelude.{ℕ, true, Result, Ok, List, [], ◌∷◌, ◌++◌, drop, replicate}
+use Rattle.octets.specs.Refusal.{refused}
+use Rattle.octets.specs.declared.refusal.Refusal.{Refusal}
 use Rattle.crc.specs.declared.CheckRule.{CheckRule}
 use Rattle.crc.specs.declared.CheckRule.TheVariants.{AnnexG, House}
 use Rattle.crc.specs.Rule.{header_check}
 use Rattle.mstp_frame.specs.declared.MstpFrameType.TheVariants.{BacnetDataNotExpectingReply}
 use Rattle.mstp_encode.specs.Encode.{encode_answer, encode_output}
 use Rattle.bip_header.specs.declared.function.BvlcFunction.TheVariants.{OriginalBroadcastNpdu}
-use Rattle.bip_header.specs.declared.BvlcDecoded.TheVariants.{Header, Refused as NotRead}
 use Rattle.bip_header.specs.Header.{new_header, decode}
-use Rattle.bip_message.specs.declared.BvlcMessage.TheVariants.{Refused as NoMessage}
 use Rattle.bip_message.specs.Message.{process}
+use Rattle.findings.specs.Result.{is_valid}
 use Rattle.validation_ip.specs.Tests.{ip_result}
-use Rattle.octets.specs.declared.CountResult.{CountResult}
-use Rattle.octets.specs.declared.CountResult.TheVariants.{Count as Found}
 use Rattle.patterns.specs.Detect.{patterns_answer, patterns_output}
 use Rattle.trials.specs.Trial.{Trial, ◌gives◌, EachHolds}
 
@@ -36,7 +33,7 @@ abbrev pub octets41 : ℕ → List ℕ
 octets41 n = replicate n 0x41
 
 -- what the frame writer answers for some data and an output; type, destination and source stay the same
-abbrev pub writing : CheckRule → List ℕ → List ℕ → CountResult
+abbrev pub writing : CheckRule → List ℕ → List ℕ → Result ℕ Refusal
 writing rule body out = encode_answer rule BacnetDataNotExpectingReply 0x10 0x05 body out
 
 -- the output afterwards
@@ -48,7 +45,7 @@ abbrev pub sent : CheckRule → List ℕ
 sent rule = written rule three_octets (zeros 13)
 
 -- what the patterns of some octets are answered with, and a list for two entries afterwards
-abbrev pub patterns_of : List ℕ → CountResult × List ℕ
+abbrev pub patterns_of : List ℕ → Result ℕ Refusal × List ℕ
 patterns_of s = (patterns_answer s (zeros 8), patterns_output s (zeros 8))
 
 -- the entry of a padding: start, length, octet value
@@ -79,27 +76,27 @@ table =
     -- (d) house sends C7 4B
     ∷ drop 11 (sent House) gives (0xC7 ∷ 0x4B ∷ [])
     -- (e) four octets 41: no padding, one text
-    ∷ patterns_of (octets41 4) gives (Found 1, text 0 4 ++ zeros 4)
+    ∷ patterns_of (octets41 4) gives (Ok 1, text 0 4 ++ zeros 4)
     -- (f) five octets 41: padding at 1, length 4, and text 0, 5
-    ∷ patterns_of (octets41 5) gives (Found 2, padding 1 4 0x41 ++ text 0 5)
+    ∷ patterns_of (octets41 5) gives (Ok 2, padding 1 4 0x41 ++ text 0 5)
     -- (g) twelve zeros: padding at 1, length 11, no "zeros"
-    ∷ patterns_of (zeros 12) gives (Found 1, padding 1 11 0x00 ++ zeros 4)
+    ∷ patterns_of (zeros 12) gives (Ok 1, padding 1 11 0x00 ++ zeros 4)
     -- (h) eight zeros, four FF: padding at 8 and "zeros"
-    ∷ patterns_of (zeros 8 ++ replicate 4 0xFF) gives (Found 2, padding 8 4 0xFF ++ all_zeros)
+    ∷ patterns_of (zeros 8 ++ replicate 4 0xFF) gives (Ok 2, padding 8 4 0xFF ++ all_zeros)
     -- (i) 81 0D 00 04: validator content,
-    ∷ (ip_result (message 0x0D)).is_valid gives true
+    ∷ is_valid (ip_result (message 0x0D)) gives true
     -- reading 13
-    ∷ decode (message 0x0D) gives NotRead 13
+    ∷ decode (message 0x0D) gives refused 13
     -- (j) 81 0B 00 04: header read,
-    ∷ decode (message 0x0B) gives Header (new_header OriginalBroadcastNpdu 4)
+    ∷ decode (message 0x0B) gives Ok (new_header OriginalBroadcastNpdu 4)
     -- NPDU 15
-    ∷ process (message 0x0B) gives NoMessage 15
+    ∷ process (message 0x0B) gives refused 15
     -- (k) 501 data octets written: 511 octets,
-    ∷ writing AnnexG (octets41 501) (zeros 511) gives Wrote 511
+    ∷ writing AnnexG (octets41 501) (zeros 511) gives Ok 511
     -- which are the frame;
     ∷ written AnnexG (octets41 501) (zeros 511) gives (0x55 ∷ 0xFF ∷ 0x06 ∷ 0x10 ∷ 0x05 ∷ 0x01 ∷ 0xF5 ∷ 0x65 ∷ octets41 501 ++ 0x1D ∷ 0x0F ∷ [])
     -- 502 gives 7
-    ∷ writing AnnexG (octets41 502) (zeros 512) gives NotWritten 7
+    ∷ writing AnnexG (octets41 502) (zeros 512) gives refused 7
     ∷ []
 
 -- each of them holds

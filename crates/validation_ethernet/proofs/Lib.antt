@@ -1,2 +1,3 @@
 pub mod NoFindings
+pub mod Parts
 pub mod Validity

@@ -1,3 +1,2 @@
-pub mod NoError
 pub mod NoFindings
 pub mod Validity

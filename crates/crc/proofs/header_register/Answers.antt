@@ -1,17 +1,28 @@
--- `crc::header_register` meets its contract: each rule's constant is that of the function called.
+-- `crc::header_register` meets its contract: it goes through the rule's table, whose constant has eight bits; the top bit of 81 is 1.
 -- Assumes nothing.
+use Prim.Native.Nat.{◌^◌, ◌<◌}
+use native.Mathlib.Nat.{le_refl}
+use native.Mathlib.Omega.{arith}
+use lib.Dec.{lit<}
+use Rattle.crc.specs.Check.{TopBitSet}
+use Rattle.crc.specs.Rule.{header_constant}
+use Rattle.crc.specs.declared.CheckRule.TheVariants.{AnnexG}
+use Rattle.crc.proofs.Least.{header_constant_lem}
+use Rattle.crc.proofs.header_register.Goals.{After-register_of}
 use Rattle.crc.proofs.header_register.Goals as goal
 
-pub returns-in-AnnexG : goal.returns-in-AnnexG
-returns-in-AnnexG c =
-    record {
-      value = rw c.in-AnnexG.is c.header_annex_g.ensures.value;
-      fits = c.header_annex_g.ensures.fits;
-    }
+fits : (c : goal.After-register_of) → c.register_of.result < 2 ^ 8
+fits c = c.register_of.ensures.fits (header_constant c.args.rule) 8 c.header_entries.ensures (le_refl 8) (header_constant_lem c.args.rule) (lit< tt)
 
-pub returns-in-House : goal.returns-in-House
-returns-in-House c =
-    record {
-      value = rw c.in-House.is c.header_house.ensures.value;
-      fits = c.header_house.ensures.fits;
-    }
+top : TopBitSet 7 (header_constant AnnexG)
+top = (omega arith, lit< tt)
+
+pub overflow_cast-result : goal.overflow_cast-result
+overflow_cast-result c = omega (arith, fits (goal.at.overflow_cast-result c).After-register_of)
+
+pub returns-clause-fits : goal.returns-clause-fits
+returns-clause-fits c = fits (goal.at.returns-clause-fits c).After-register_of
+
+pub returns-clause-injective : goal.returns-clause-injective
+returns-clause-injective c = λ annex-g other.
+    c.register_of.ensures.injective (header_constant c.args.rule) 7 other c.header_entries.ensures (le_refl 8) (rw annex-g top) (lit< tt)

@@ -1,34 +1,33 @@
--- `ethernet_decode::payload` meets its contract: the questions decide between no octets and the part that the form counts.
+-- `ethernet_decode::payload` meets its contract: the part that the form counts, or no octets where a question fails.
 -- Assumes nothing.
 use mathlib.Core.Path.{ap}
 use Prim.Native.Nat.{ℕ, ◌+◌, ◌≤◌}
 use native.Mathlib.Omega.{arith}
 use lib.ListN.{length}
-use Rattle.ethernet_decode.proofs.Frames.{Accepted}
-use Rattle.ethernet_decode.proofs.Answers.{passed, payload_refused, payload_accepted}
-use Rattle.ethernet_decode.proofs.payload.Goals.{After-payload_length-end}
+use Rattle.octets.proofs.Refusals.{none_failed, one_failed}
+use Rattle.ethernet_decode.proofs.Frames.{facts}
+use Rattle.ethernet_decode.proofs.Answers.{payload_refused, payload_accepted}
 use Rattle.ethernet_decode.proofs.payload.Goals as goal
 
--- past the test the octets are accepted
-past : (c : goal.After-payload_length-end) → Accepted c.args.form c.args.frame.now
-past c = passed _ _ c.decode_question.ensures (omega arith)
+-- the payload ends within the octets
+within : (c : goal.In-Ok) → 17 + c.in-Ok.length ≤ length c.args.frame.now
+within c =
+    let f = none_failed _ _ c.length_of.ensures c.in-Ok.is in
+    rw f.1 (facts _ _ f.0).enough
 
-pub returns-then-decode_question-ne0 : goal.returns-then-decode_question-ne0
-returns-then-decode_question-ne0 c =
-    let all = payload_refused _ _ c.decode_question.ensures c.if-decode_question-ne0.true in
+pub overflow_add-result : goal.overflow_add-result
+overflow_add-result c = omega (arith, within c)
+
+pub slice_bounds-result-end : goal.slice_bounds-result-end
+slice_bounds-result-end c = within c
+
+pub returns-in-Ok : goal.returns-in-Ok
+returns-in-Ok c =
+    let f = none_failed _ _ c.length_of.ensures c.in-Ok.is in
+    let all = payload_accepted _ _ f.0 (ap (λ (n : ℕ). 17 + n) f.1) in
     record { result_value = all.0; whole = all.1 }
 
--- the payload ends within the octets
-within : (c : goal.After-payload_length-end) → 17 + c.payload_length-end.result ≤ length c.args.frame.now
-within c = rw c.payload_length-end.ensures (past c).enough
-
-pub overflow_add-end : goal.overflow_add-end
-overflow_add-end c = omega (arith, within c)
-
-pub slice_bounds-result-end-2 : goal.slice_bounds-result-end-2
-slice_bounds-result-end-2 c = within (goal.at.slice_bounds-result-end-2 c).After-payload_length-end
-
-pub returns : goal.returns
-returns c =
-    let all = payload_accepted _ _ c.decode_question.ensures c.if-decode_question-ne0.false (ap (λ (n : ℕ). 17 + n) c.payload_length-end.ensures) in
+pub returns-in-Err : goal.returns-in-Err
+returns-in-Err c =
+    let all = payload_refused _ _ (one_failed _ _ c.length_of.ensures c.in-Err.is).0 in
     record { result_value = all.0; whole = all.1 }

@@ -1,13 +1,19 @@
 -- `log_append::append` meets its contract: four questions, then the record behind the used octets.
 -- Assumes nothing.
-use mathlib.Core.Path.{sym, ◌∙◌}
-use Prim.Native.Nat.{◌≤◌}
+use mathlib.Core.Path.{◌≡◌, sym, ap, subst, ◌∙◌}
+use mathlib.Core.Bool.{true}
+use Prim.Native.Nat.{ℕ}
 use native.Mathlib.Omega.{arith}
-use lib.ListN.{length}
-use Rattle.octets.proofs.Ranges.{within_true}
-use Rattle.log_record.proofs.KindOctet.{time_few}
+use Rattle.std.specs.Prelude.{Result, Ok, Err}
+use Rattle.std.proofs.lemmas.Result.{err_from_is_err_and}
+use Rattle.octets.specs.Refusal.{refused}
+use Rattle.octets.specs.declared.refusal.Refusal.{Refusal}
+use Rattle.log_record.specs.Kind.{kind_number, known_kind}
+use Rattle.log_record.specs.declared.kind.RecordKind.{RecordKind}
+use Rattle.log_record.proofs.KindNumbers.{number_back, kind_read, no_kind_read}
+use Rattle.log_append.specs.Append.{ReadsBack}
 use Rattle.log_append.proofs.Appends.{beyond, no_kind, no_size, no_room, all_written}
-use Rattle.log_append.proofs.append.Goals.{After-time_size}
+use Rattle.log_append.proofs.append.Goals.{After-try_from, After-time_size}
 use Rattle.log_append.proofs.append.Goals as goal
 
 pub returns-then-buffer-used : goal.returns-then-buffer-used
@@ -16,44 +22,38 @@ returns-then-buffer-used c =
     let all = beyond a.buffer.now a.used a.kind a.time a.payload.now c.if-buffer-used.true in
     record { value = all.0; output = all.1.0; back = all.1.1 }
 
-pub returns-then-not-known_kind : goal.returns-then-not-known_kind
-returns-then-not-known_kind c =
-    let all = no_kind _ _ _ _ _ c.if-buffer-used.false c.known_kind.ensures (c.if-not-known_kind.true) in
-    record { value = all.0; output = all.1.0; back = all.1.1 }
+-- the kind has the number that was passed
+known : (c : After-try_from) {kind : RecordKind} → c.try_from.result ≡ Ok kind → (known_kind c.args.kind ≡ true) × (kind_number kind ≡ c.args.kind)
+known c ok =
+    let k = kind_read _ c.try_from.ensures ok in (k.0, ap kind_number k.1 ∙ number_back _ k.0)
+
+pub returns-in_err-kind : goal.returns-in_err-kind
+returns-in_err-kind c =
+    let p = err_from_is_err_and c.from_residual.result c.from_residual.ensures.1 in
+    let none = no_kind_read _ c.try_from.ensures c.in_err-kind.was in
+    let a = c.args in
+    let all = no_kind a.buffer.now a.used a.kind a.time a.payload.now c.if-buffer-used.false none.0 in
+    let same : c.from_residual.result ≡ refused 42 = p.1 ∙ ap Err (p.2 ∙ none.1) in
+    record {
+      value = same ∙ all.0;
+      output = all.1.0;
+      back = subst (λ (r : Result ℕ Refusal). ReadsBack a.buffer.now a.used a.kind a.time a.payload.now a.buffer.now r) (sym same) all.1.1;
+    }
 
 pub returns-then-not-allowed_size : goal.returns-then-not-allowed_size
 returns-then-not-allowed_size c =
-    let all = no_size _ _ _ _ _ c.if-buffer-used.false c.known_kind.ensures (c.if-not-known_kind.false) c.allowed_size.ensures (c.if-not-allowed_size.true) in
+    let all = no_size _ _ _ _ _ c.if-buffer-used.false (known (goal.at.returns-then-not-allowed_size c).After-try_from c.in_ok-kind.was).0 c.allowed_size.ensures (c.if-not-allowed_size.true) in
     record { value = all.0; output = all.1.0; back = all.1.1 }
-
--- the size of a record fits its type
-few : (c : goal.After-time_size) → (length c.args.payload.now ≤ 1514) × (c.time_size.result ≤ 4)
-few c = (
-  (within_true 1 1514 (length c.args.payload.now) (sym c.allowed_size.ensures ∙ c.if-not-allowed_size.false)).1,
-  omega (arith, c.time_size.ensures, time_few c.args.time),
-)
 
 pub returns-then-buffer-used-2 : goal.returns-then-buffer-used-2
 returns-then-buffer-used-2 c =
-    let all = no_room _ _ _ _ _ c.if-buffer-used.false c.known_kind.ensures (c.if-not-known_kind.false) c.allowed_size.ensures (c.if-not-allowed_size.false)
+    let all = no_room _ _ _ _ _ c.if-buffer-used.false (known (goal.at.returns-then-buffer-used-2 c).After-try_from c.in_ok-kind.was).0 c.allowed_size.ensures (c.if-not-allowed_size.false)
     (omega (arith, c.time_size.ensures, c.if-buffer-used-2.true)) in
     record { value = all.0; output = all.1.0; back = all.1.1 }
 
-pub put_record-requires : goal.put_record-requires
-put_record-requires c = (
-  sym c.known_kind.ensures ∙ c.if-not-known_kind.false,
-  (omega (arith, (few (goal.at.put_record-requires c).After-time_size).0), omega (arith, c.time_size.ensures, c.if-buffer-used-2.false, c.if-buffer-used.false)),
-)
-
 pub returns : goal.returns
 returns c =
-    let all = all_written _ _ _ _ _ c.if-buffer-used.false c.known_kind.ensures (c.if-not-known_kind.false) c.allowed_size.ensures (c.if-not-allowed_size.false)
+    let all = all_written _ _ _ _ _ c.if-buffer-used.false (known (goal.at.returns c).After-try_from c.in_ok-kind.was).0 c.allowed_size.ensures (c.if-not-allowed_size.false)
     (omega (arith, c.time_size.ensures, c.if-buffer-used-2.false))
-    c.put_record.ensures in
+    (rw (known (goal.at.returns c).After-try_from c.in_ok-kind.was).1 at c.put_record.ensures) in
     record { value = all.0; output = all.1.0; back = all.1.1 }
-
-pub overflow_add-time_size : goal.overflow_add-time_size
-overflow_add-time_size c = omega (arith, (few c).1)
-
-pub overflow_add-n : goal.overflow_add-n
-overflow_add-n c = omega (arith, (few c).0, (few c).1)

@@ -3,5 +3,5 @@
 use Rattle.missed_changes.proofs.Spaced.{Going}
 use Rattle.missed_changes.proofs.put_spaced.Given as goal
 
-abbrev pub invariant-loop-i : goal.invariant-loop-i
-invariant-loop-i l = Going l.s l.initial.out l.initial.behind l.i l.out l.behind
+abbrev pub invariant-loop-octet : goal.invariant-loop-octet
+invariant-loop-octet l = Going l.octet-items l.initial.out l.initial.behind l.octet-index l.out l.behind

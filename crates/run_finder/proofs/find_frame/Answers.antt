@@ -4,7 +4,7 @@ use mathlib.Core.Path.{◌≡◌, sym, ap, ◌∙◌}
 use Prim.Native.Nat.{ℕ, ◌≤◌}
 use borrow.Author.Tests.{leb-true, leb-false}
 use lib.ListN.{length}
-use Rattle.run_search.specs.declared.FrameFound.TheVariants.{Frame}
+use Rattle.std.specs.Prelude.{Some, Ok}
 use Rattle.run_search.specs.Search.{report, search_from}
 use Rattle.run_finder.specs.Find.{find}
 use Rattle.run_finder.proofs.Answers.{answers}
@@ -20,7 +20,7 @@ fits c = leb-true _ 65535 (sym c.at_most_65535.ensures ∙ c.if-not-at_most_6553
 -- the finder's answer is the search's
 found : (c : goal.After-next_frame-p)
     → let a = c.args in
-    find a.rule a.run.now a.place ≡ (search_from a.rule a.run.now a.place).found
+    find a.rule a.run.now a.place ≡ Ok (search_from a.rule a.run.now a.place).found
 found c = find_search _ _ (leb-true _ 65535 (sym c.at_most_65535.ensures ∙ c.if-not-at_most_65535.false)) _ c.if-run-place.false
 
 -- what the place means
@@ -43,10 +43,10 @@ returns-then-run-place c =
 pub returns-then-p-run : goal.returns-then-p-run
 returns-then-p-run c =
     let all = answers _ _ (λ i. (c.type_inv.run i).fits) _
-    (ap (λ (n : ℕ). Frame (report c.next_frame-p.result n)) c.size_at.ensures ∙ sym (found (goal.at.returns-then-p-run c).After-next_frame-p ∙ (means (goal.at.returns-then-p-run c).After-next_frame-p).frame c.if-p-run.true)) in
+    (ap (λ (n : ℕ). Ok (Some (report c.next_frame-p.result n))) c.size_at.ensures ∙ sym (found (goal.at.returns-then-p-run c).After-next_frame-p ∙ ap Ok ((means (goal.at.returns-then-p-run c).After-next_frame-p).frame c.if-p-run.true))) in
     record { value = all.0; plain = all.1.0; calls = all.1.1.0; example = all.1.1.1 }
 
 pub returns : goal.returns
 returns c =
-    let all = answers _ _ (λ i. (c.type_inv.run i).fits) _ (sym (found (goal.at.returns c).After-next_frame-p ∙ (means (goal.at.returns c).After-next_frame-p).none c.if-p-run.false)) in
+    let all = answers _ _ (λ i. (c.type_inv.run i).fits) _ (sym (found (goal.at.returns c).After-next_frame-p ∙ ap Ok ((means (goal.at.returns c).After-next_frame-p).none c.if-p-run.false))) in
     record { value = all.0; plain = all.1.0; calls = all.1.1.0; example = all.1.1.1 }

@@ -10,20 +10,20 @@ use Rattle.octets.specs.Size.{at_most_65535}
 use Rattle.run_finder.specs.Reading.{reading}
 use Rattle.run_finder.proofs.Pass.{reading_reports, few_reports}
 use Rattle.run_reading.proofs.Answers.{read_refused, no_room, read}
-use Rattle.run_reading.proofs.read_frames.Goals.{Else-not-at_most_65535, Joined-out-run, then-out-run+else-out-count_reports, else-out-run}
+use Rattle.run_reading.proofs.read_frames.Goals.{Else-not-at_most_65535, Joined-else-out-run, else-out-run-via-then-out-run+else-out-count_reports, else-out-run-via-else-out-run}
 use Rattle.run_reading.proofs.read_frames.Goals as goal
 
 fits : (c : goal.Else-not-at_most_65535) → at_most_65535 (length c.args.run.now) ≡ true
 fits c = sym c.at_most_65535.ensures ∙ c.if-not-at_most_65535.false
 
 -- all reports fit: they were counted, or the list has room for one in every 8 octets
-room : (c : goal.Joined-out-run) → let a = c.args in length (reading a.rule a.run.now) ≤ length a.out.now / 2
+room : (c : goal.Joined-else-out-run) → let a = c.args in length (reading a.rule a.run.now) ≤ length a.out.now / 2
 room c =
     let a = c.args in
     let few = leb-true (length a.run.now) 65535 (sym c.at_most_65535.ensures ∙ c.if-not-at_most_65535.false) in
-    elim c.if-out-run.branch [
-      | then-out-run+else-out-count_reports w ↦ omega arith
-      | else-out-run w ↦ omega (arith, few_reports a.rule a.run.now few (λ i. (c.type_inv.run i).fits))
+    elim c.else-out-run.branch [
+      | else-out-run-via-then-out-run+else-out-count_reports w ↦ omega arith
+      | else-out-run-via-else-out-run w ↦ omega (arith, few_reports a.rule a.run.now few (λ i. (c.type_inv.run i).fits))
     ]
 
 pub returns-then-not-at_most_65535 : goal.returns-then-not-at_most_65535
@@ -45,5 +45,5 @@ returns c =
     let a = c.args in
     let whole = reading_reports a.rule a.run.now (leb-true _ 65535 (fits (goal.at.returns c).Else-not-at_most_65535)) known in
     let counted = rw (← whole) at c.store_reports.ensures.value in
-    let all = read _ _ known _ (fits (goal.at.returns c).Else-not-at_most_65535) counted (omega (arith, room (goal.at.returns c).Joined-out-run, counted)) (rw (← whole) at c.store_reports.ensures.output) in
+    let all = read _ _ known _ (fits (goal.at.returns c).Else-not-at_most_65535) counted (omega (arith, room (goal.at.returns c).Joined-else-out-run, counted)) (rw (← whole) at c.store_reports.ensures.output) in
     record { value = all.0; output = all.1.0; calls = all.1.1.0; demand = all.1.1.1 }

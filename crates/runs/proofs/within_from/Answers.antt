@@ -1,25 +1,15 @@
--- `runs::within_from` meets its contract: the octets passed and those from here on stay the count.
+-- `runs::within_from` meets its contract: those in front of what is behind place i are counted.
 -- Assumes nothing.
-use mathlib.Core.Path.{◌∙◌, sym}
-use native.Mathlib.Omega.{arith}
-use Rattle.runs.proofs.Front.{front_turn, front_stop, front_end}
+use Rattle.std.proofs.Common.{arith, ◌≡◌, ◌∙◌, drop}
+use Rattle.std.proofs.lemmas.Grind.{common_steps}
 use Rattle.octets.specs.Range.{within}
+use Rattle.runs.proofs.Front.{prefix_len-front, front_end}
 use Rattle.runs.proofs.within_from.Goals as goal
 
-pub returns-then-not-within : goal.returns-then-not-within
-returns-then-not-within c =
-    let g = c.args in
-    let fails = sym c.within.ensures ∙ c.if-not-within.true in
-    omega (arith, front_stop (within g.low g.high) g.s.now c.loop-j.j c.loop-j-test.true fails)
+pub returns-in-Some : goal.returns-in-Some
+returns-in-Some c =
+    let rest : c.in-Some.rest.now ≡ drop c.args.i c.args.s.now = grind (arith, common_steps, c.in-Some.ensures) in
+    rw (← rest) (c.front_within.ensures ∙ prefix_len-front (within c.args.low c.args.high) c.in-Some.rest.now)
 
-pub loop-j-preserved : goal.loop-j-preserved
-loop-j-preserved c =
-    let g = c.args in
-    let passes = sym c.within.ensures ∙ c.if-not-within.false in
-    let e = front_turn (within g.low g.high) g.s.now c.loop-j.j c.loop-j-test.true passes in
-    (omega arith, omega arith)
-
-pub returns : goal.returns
-returns c =
-    let g = c.args in
-    omega (arith, front_end (within g.low g.high) g.s.now c.loop-j.j c.loop-j-test.false)
+pub returns-in-None : goal.returns-in-None
+returns-in-None c = omega (arith, front_end (within c.args.low c.args.high) c.args.s.now c.args.i (omega (arith, c.in-None.ensures)))

@@ -1,27 +1,26 @@
--- `statistics::calculate_frame_statistics` meets its contract: the size decides between zeros and the statistics.
+-- `statistics::calculate_frame_statistics` meets its contract: the size decides whether there are statistics.
 -- Assumes nothing.
-use mathlib.Core.Path.{◌≡◌, sym, ◌∙◌}
-use mathlib.Core.Bool.{true}
-use lib.ListN.{length}
-use borrow.Author.Tests.{leb-true}
-use Rattle.octets.specs.Size.{at_most_65535}
-use Rattle.statistics.proofs.Answers.{statistics_refused, statistics_calculated}
-use Rattle.statistics.proofs.calculate_frame_statistics.Goals.{Else-not-at_most_65535}
+use mathlib.Core.Path.{sym, ◌∙◌}
+use Rattle.statistics.proofs.Answers.{too_many, all_counted, null_counted, high_counted, longest_stands}
+use Rattle.statistics.proofs.Change.{taken, one_changed, reached}
 use Rattle.statistics.proofs.calculate_frame_statistics.Goals as goal
 
-pub returns-then-not-at_most_65535 : goal.returns-then-not-at_most_65535
-returns-then-not-at_most_65535 c =
-    let all = statistics_refused _ (sym c.at_most_65535.ensures ∙ c.if-not-at_most_65535.true) c.zeros.ensures in
-    record { value = all.0; counts = all.1.0; null = all.1.1.0; high = all.1.1.1.0; longest = all.1.1.1.1.0; changed = all.1.1.1.1.1.0; reached = all.1.1.1.1.1.1 }
+pub returns-then-not-at_most_65535-clause-value : goal.returns-then-not-at_most_65535-clause-value
+returns-then-not-at_most_65535-clause-value c = too_many _ (sym c.at_most_65535.ensures ∙ c.if-not-at_most_65535.true)
 
--- few enough
-few : (c : goal.Else-not-at_most_65535) → at_most_65535 (length c.args.frame.now) ≡ true
-few c = sym c.at_most_65535.ensures ∙ c.if-not-at_most_65535.false
-
-pub frame_statistics-statistics-requires : goal.frame_statistics-statistics-requires
-frame_statistics-statistics-requires c = leb-true _ _ (few c)
+pub returns-then-not-at_most_65535-clause-reached : goal.returns-then-not-at_most_65535-clause-reached
+returns-then-not-at_most_65535-clause-reached c = reached
 
 pub returns : goal.returns
 returns c =
-    let all = statistics_calculated _ (λ i. (c.type_inv.frame i).fits) (few (goal.at.returns c).Else-not-at_most_65535) c.frame_statistics-statistics.ensures in
-    record { value = all.0; counts = all.1.0; null = all.1.1.0; high = all.1.1.1.0; longest = all.1.1.1.1.0; changed = all.1.1.1.1.1.0; reached = all.1.1.1.1.1.1 }
+    let few = sym c.at_most_65535.ensures ∙ c.if-not-at_most_65535.false in
+    rw c.frame_statistics.ensures
+    record {
+      value = taken _ few;
+      counts = all_counted _ (λ i. (c.type_inv.frame i).fits);
+      null = null_counted _;
+      high = high_counted _ (λ i. (c.type_inv.frame i).fits);
+      longest = longest_stands _;
+      changed = one_changed _ few;
+      reached = reached;
+    }

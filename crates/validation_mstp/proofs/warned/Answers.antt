@@ -1,21 +1,15 @@
 -- `validation_mstp::warned` meets its contract: the two tests are the definition's.
 -- Assumes nothing.
-use borrow.Author.Tests.{le-leb, lt-leb}
-use Rattle.validation_mstp.proofs.NoFindings.{warned_is}
+use native.Mathlib.Omega.{arith}
+use Rattle.std.proofs.lemmas.Bool.Decides.{nat_tests}
+use Rattle.findings.proofs.Quiet.{quiet_is}
+use Rattle.validation_mstp.specs.Tests.{warning_tests}
 use Rattle.validation_mstp.proofs.warned.Goals as goal
 
 pub returns-then-frame_type-ge-PROPRIETARY : goal.returns-then-frame_type-ge-PROPRIETARY
-returns-then-frame_type-ge-PROPRIETARY c =
-    let a = c.args in
-    rw (← (warned_is a.rule a.frame.now), ← c.frame_type-frame_type.ensures, le-leb _ _ c.if-frame_type-ge-PROPRIETARY.true)
+unfolding warning_tests
+returns-then-frame_type-ge-PROPRIETARY c = rw (quiet_is (warning_tests c.args.rule c.args.frame.now)) (grind (arith, nat_tests))
 
-pub returns : goal.returns
-returns c =
-    let a = c.args in
-    rw (
-      ← (warned_is a.rule a.frame.now),
-      ← c.frame_type-frame_type.ensures,
-      lt-leb _ _ c.if-frame_type-ge-PROPRIETARY.false,
-      ← c.destination.ensures,
-      ← c.source.ensures,
-    ) c.master_to_slave.ensures
+pub returns-else-frame_type-ge-PROPRIETARY : goal.returns-else-frame_type-ge-PROPRIETARY
+unfolding warning_tests
+returns-else-frame_type-ge-PROPRIETARY c = rw (quiet_is (warning_tests c.args.rule c.args.frame.now)) (grind (arith, nat_tests))

@@ -1,18 +1,17 @@
 -- `run_search::through::next_55` meets its contract: no frame starts at an octet other than 55.
 -- Assumes nothing.
-use mathlib.Core.Path.{refl}
+use mathlib.Core.Path.{◌≡◌, refl, subst}
+use Prim.Native.Nat.{◌+◌, ◌-◌}
 use native.Mathlib.Omega.{arith}
-use Rattle.run_search.proofs.Turns.{none_next}
+use lib.ListN.{length}
+use Rattle.run_search.specs.Steps.{NoneBefore}
+use Rattle.run_search.proofs.Turns.{none_before_55}
 use Rattle.run_search.proofs.through.next_55.Goals as goal
 
-pub loop-p-init : goal.loop-p-init
-loop-p-init c = record { later = omega arith; same = λ rule. refl }
+pub returns-in-Some : goal.returns-in-Some
+returns-in-Some c = none_before_55 _ (λ i. (c.type_inv.run i).fits) c.first_55.ensures refl (omega arith) c.in-Some.is
 
-pub returns-then-run-p-eq-MSTP_PREAMBLE_55 : goal.returns-then-run-p-eq-MSTP_PREAMBLE_55
-returns-then-run-p-eq-MSTP_PREAMBLE_55 c = c.loop-p.invariant
-
-pub loop-p-preserved : goal.loop-p-preserved
-loop-p-preserved c = none_next _ (λ i. (c.type_inv.run i).fits) c.loop-p.invariant c.loop-p-test.true c.if-run-p-eq-MSTP_PREAMBLE_55.false
-
-pub returns : goal.returns
-returns c = c.loop-p.invariant
+pub returns-in-None : goal.returns-in-None
+returns-in-None c =
+    let end : c.args.from + (length c.args.run.now - c.args.from) ≡ length c.args.run.now = omega arith in
+    subst (NoneBefore _ _) end (none_before_55 _ (λ i. (c.type_inv.run i).fits) c.first_55.ensures refl (omega arith) c.in-None.is)

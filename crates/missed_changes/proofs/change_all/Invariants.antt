@@ -1,9 +1,0 @@
--- `missed_changes::change_all` meets its contract: the tally is that of the types so far.
--- Assumes nothing.
-use Rattle.mstp_frame.specs.FrameType.{type_of}
-use Rattle.missed_changes.specs.Changes.{of_type}
-use Rattle.missed_changes.proofs.Counts.{Going}
-use Rattle.missed_changes.proofs.change_all.Given as goal
-
-abbrev pub invariant-loop-number : goal.invariant-loop-number
-invariant-loop-number g l = Going l.rule (λ test number. of_type test l.rule (type_of number)) 8 l.number l.tally

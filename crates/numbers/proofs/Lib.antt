@@ -1,3 +1,0 @@
-pub mod Layouts
-pub mod Named
-pub mod States

@@ -1,0 +1,51 @@
+// The reports of a run under one rule, as an iterator.
+use crc::CheckRule;
+use run_search::Report;
+
+// A run and a rule, and the place to go on from.
+#[derive(Clone, Copy)]
+pub struct FrameReports<'a> {
+    pub rule: CheckRule,
+    pub run: &'a [u8],
+    pub place: usize,
+}
+
+impl<'a> FrameReports<'a> {
+    ghost use Rattle.std.specs.Prelude.{◌≡◌};
+    ghost use Rattle.run_search.specs.Reports.{reports};
+    ghost use Rattle.run_reader.specs.Left.{reports_left};
+
+    // The reports of a whole run.
+    #[tactic(auto, unfolding(run_search::specs::Reports::reports))]
+    pub fn new(rule: CheckRule, run: &'a [u8]) -> FrameReports<'a>
+        ensures { reports_left result ≡ reports rule run.now }
+    {
+        FrameReports {
+            rule,
+            run,
+            place: 0,
+        }
+    }
+}
+
+// Each call gives the first of the reports that are left, and leaves the others; of a run of more than 65,535 octets there
+// are none.
+impl<'a> Iterator for FrameReports<'a> {
+    type Item = Report;
+
+    ghost use Rattle.std.specs.Iterator.{YieldsFirst, item_count};
+    ghost use Rattle.run_reader.specs.Left.{reports_left};
+
+    ghost next_gives = { YieldsFirst reports_left };
+
+    ghost remaining = { item_count reports_left };
+
+    #[tactic(auto, using(crate::proofs::Left::left_some, crate::proofs::Left::left_none, crate::proofs::Left::left_refused))]
+    fn next(&mut self) -> Option<Report> {
+        let Ok(Some(report)) = run_finder::find_frame(self.rule, self.run, self.place) else {
+            return None;
+        };
+        self.place = report.place + report.count;
+        Some(report)
+    }
+}
