@@ -1,13 +1,13 @@
 -- The statistics of a frame: how often each value occurs, zeros, high octets, the longest run (question 31).
 -- Assumes nothing.
-use Rattle.std.specs.Prelude.{ℕ, List, [], ◌∷◌, map, leb, Result}
+use Rattle.std.specs.Prelude.{ℕ, List, [], ◌∷◌, map, leb, replicate, Result}
 use Rattle.std.specs.List.{range_with_len}
 use Rattle.octets.specs.Question.{first_no}
 use Rattle.octets.specs.Refusal.{result_of}
 use Rattle.octets.specs.Size.{size_question}
 use Rattle.octets.specs.declared.refusal.Refusal.{Refusal}
 use Rattle.runs.specs.Front.{is, count}
-use Rattle.runs.specs.Longest.{longest}
+use Rattle.runs.specs.Longest.{run, longest}
 use Rattle.statistics.specs.declared.FrameStatistics.{FrameStatistics}
 
 -- for each of n values from a on, how many octets have it
@@ -33,6 +33,15 @@ frame_statistics s = record {
   null_bytes = null_bytes s;
   high_bytes = high_bytes s;
   longest_run = longest s;
+}
+
+-- zeros: what stands where nothing was counted
+abbrev pub no_statistics : FrameStatistics
+no_statistics = record {
+  byte_distribution = replicate 256 0;
+  null_bytes = 0;
+  high_bytes = 0;
+  longest_run = run 0 0 0;
 }
 
 -- the question that some octets fail, or 0

@@ -2,7 +2,7 @@
 #![tactic(auto)]
 
 ghost use Rattle.std.specs.Prelude.{◌≡◌, ◌≤◌, length, sum, IfOk};
-ghost use Rattle.statistics.specs.Statistics.{byte_distribution, frame_statistics, statistics};
+ghost use Rattle.statistics.specs.Statistics.{byte_distribution, frame_statistics, no_statistics, statistics};
 ghost use Rattle.statistics.specs.Laws.{AllCounted, NullCounted, HighCounted, LongestStands};
 ghost use Rattle.statistics.specs.Change.{OneChanged, Reached};
 
@@ -16,6 +16,24 @@ pub struct FrameStatistics {
     pub null_bytes: usize,
     pub high_bytes: usize,
     pub longest_run: Run,
+}
+
+impl FrameStatistics {
+    // Zeros: what stands where nothing was counted.
+    pub fn zeros() -> FrameStatistics
+        ensures { result ≡ no_statistics }
+    {
+        FrameStatistics {
+            byte_distribution: [0; 256],
+            null_bytes: 0,
+            high_bytes: 0,
+            longest_run: Run {
+                start: 0,
+                octet: 0,
+                length: 0,
+            },
+        }
+    }
 }
 
 // How many octets have each value.
