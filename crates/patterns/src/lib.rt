@@ -15,6 +15,15 @@ use octets::Refusal;
 use padded_frame::PaddedFrame;
 use seen::Seen;
 
+// The numbers of the patterns.
+pub const PADDING: u32 = 1;
+
+pub const TEXT: u32 = 2;
+
+pub const ZEROS: u32 = 3;
+
+pub const SEQUENCE: u32 = 4;
+
 // Writes an entry of four numbers (pattern, start, length, octet value) for each pattern at the front of `out`, whose rest
 // stays, and answers how many there are. Or refuses by the question that fails, and writes nothing. The paddings and the texts
 // among the entries are those that `Padding` and `Text` describe, and none is missing.

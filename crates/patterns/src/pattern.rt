@@ -4,6 +4,8 @@ ghost use Rattle.std.specs.Option.{option_to_list};
 ghost use Rattle.patterns.specs.Entries.{numbers_of};
 ghost use Rattle.patterns.specs.Steps.{PutEntries};
 
+use crate::{PADDING, SEQUENCE, TEXT, ZEROS};
+
 // A pattern: its first place, how many octets it has, and the value that all of them have.
 #[derive(Clone, Copy)]
 pub(crate) enum Pattern {
@@ -23,10 +25,10 @@ impl From<Pattern> for [u32; 4] {
                 start,
                 length,
                 value,
-            } => [1, start, length, u32::from(value)],
-            Pattern::AsciiText { start, length } => [2, start, length, 0],
-            Pattern::Zeros => [3, 0, 0, 0],
-            Pattern::Sequence => [4, 0, 0, 0],
+            } => [PADDING, start, length, u32::from(value)],
+            Pattern::AsciiText { start, length } => [TEXT, start, length, 0],
+            Pattern::Zeros => [ZEROS, 0, 0, 0],
+            Pattern::Sequence => [SEQUENCE, 0, 0, 0],
         }
     }
 }
