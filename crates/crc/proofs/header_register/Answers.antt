@@ -20,6 +20,9 @@ top = (omega arith, lit< tt)
 pub overflow_cast-result : goal.overflow_cast-result
 overflow_cast-result c = omega (arith, fits (goal.at.overflow_cast-result c).After-register_of)
 
+pub returns-clause-continued : goal.returns-clause-continued
+returns-clause-continued c = λ more. c.register_of.ensures.continued (header_constant c.args.rule) more c.header_entries.ensures
+
 pub returns-clause-fits : goal.returns-clause-fits
 returns-clause-fits c = fits (goal.at.returns-clause-fits c).After-register_of
 
