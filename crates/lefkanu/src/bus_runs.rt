@@ -21,7 +21,7 @@ pub extern "C" fn lefkanu_find_frame(
     ensures report { report.new
         ≡ under_rule rule (λ rule. made_of_found report_numbers report.old (find rule run.now place)) report.old }
 {
-    let Some(rule) = numbers::rule_of(rule) else {
+    let Some(rule) = numbers::rule_named(rule) else {
         return NO_CASE;
     };
     answers::tell_found(run_finder::find_frame(rule, run, place), report)
@@ -34,7 +34,7 @@ pub extern "C" fn lefkanu_count_frames(rule: u8, run: &[u8], count: &mut usize) 
     ensures count { count.new
         ≡ under_rule rule (λ rule. count_or count.old (count_answer rule run.now)) count.old }
 {
-    let Some(rule) = numbers::rule_of(rule) else {
+    let Some(rule) = numbers::rule_named(rule) else {
         return NO_CASE;
     };
     answers::tell(run_reading::count_frames(rule, run), count)
@@ -56,7 +56,7 @@ pub extern "C" fn lefkanu_read_frames(
         ≡ under_rule rule (λ rule. count_or count.old (read_answer rule run.now out.old))
         count.old }
 {
-    let Some(rule) = numbers::rule_of(rule) else {
+    let Some(rule) = numbers::rule_named(rule) else {
         return NO_CASE;
     };
     answers::tell(run_reading::read_frames(rule, run, out), count)

@@ -54,7 +54,7 @@ pub extern "C" fn lefkanu_ethernet_decode_form(
     ensures part { result ≡ 0
         → part_named 0 payload_part.new frame.now ≡ in_form form (λ form. payload form frame.now) [] }
 {
-    let Some(form) = numbers::form_of(form) else {
+    let Some(form) = numbers::form_named(form) else {
         return NO_CASE;
     };
     let answer = ethernet_decode::decode(form, frame);
@@ -109,7 +109,7 @@ pub extern "C" fn lefkanu_ethernet_encode_form(
         (encode_answer form dest_mac.now src_mac.now body.now out.old))
         count.old }
 {
-    let Some(form) = numbers::form_of(form) else {
+    let Some(form) = numbers::form_named(form) else {
         return NO_CASE;
     };
     let answer = ethernet_encode::encode(form, *dest_mac, *src_mac, body, out);

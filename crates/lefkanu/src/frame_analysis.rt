@@ -68,7 +68,7 @@ pub extern "C" fn lefkanu_analyze_frame(
         ≡ under_rule rule (λ rule. analysis_count count.old (analysis rule frame.now out.old))
         count.old }
 {
-    let Some(rule) = numbers::rule_of(rule) else {
+    let Some(rule) = numbers::rule_named(rule) else {
         return NO_CASE;
     };
     let answer = analysis::analyze_frame(rule, frame, out);
