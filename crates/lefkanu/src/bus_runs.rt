@@ -37,7 +37,7 @@ pub extern "C" fn lefkanu_count_frames(rule: u8, run: &[u8], count: &mut usize) 
     let Some(rule) = numbers::rule_named(rule) else {
         return NO_CASE;
     };
-    answers::tell(run_reading::count_frames(rule, run), count)
+    answers::tell_count(run_reading::count_frames(rule, run), count)
 }
 
 // The whole reading of a run: place and octet count of each frame at the front of `out`, whose rest stays, and the count
@@ -59,5 +59,5 @@ pub extern "C" fn lefkanu_read_frames(
     let Some(rule) = numbers::rule_named(rule) else {
         return NO_CASE;
     };
-    answers::tell(run_reading::read_frames(rule, run, out), count)
+    answers::tell_count(run_reading::read_frames(rule, run, out), count)
 }

@@ -86,7 +86,7 @@ pub extern "C" fn lefkanu_ethernet_encode(
         (encode_answer EtherType dest_mac.now src_mac.now body.now out.old) }
 {
     let answer = ethernet_encode::encode(EthernetForm::EtherType, *dest_mac, *src_mac, body, out);
-    answers::tell(answer, count)
+    answers::tell_count(answer, count)
 }
 
 // The same in the form of a number.
@@ -113,5 +113,5 @@ pub extern "C" fn lefkanu_ethernet_encode_form(
         return NO_CASE;
     };
     let answer = ethernet_encode::encode(form, *dest_mac, *src_mac, body, out);
-    answers::tell(answer, count)
+    answers::tell_count(answer, count)
 }

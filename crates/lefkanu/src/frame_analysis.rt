@@ -37,7 +37,7 @@ pub extern "C" fn lefkanu_detect_patterns(frame: &[u8], out: &mut [u32], count: 
     ensures count { count.new
         ≡ count_or count.old (patterns_answer frame.now out.old) }
 {
-    answers::tell(patterns::detect_patterns(frame, out), count)
+    answers::tell_count(patterns::detect_patterns(frame, out), count)
 }
 
 // Validation, statistics and patterns together.

@@ -46,5 +46,5 @@ pub extern "C" fn lefkanu_append(
         return NO_CASE;
     };
     let answer = log_append::append(buffer, used, kind, time, payload);
-    answers::tell(answer, new_used)
+    answers::tell_count(answer, new_used)
 }

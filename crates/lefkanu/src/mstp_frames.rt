@@ -71,5 +71,5 @@ pub extern "C" fn lefkanu_mstp_encode(
         return NO_CASE;
     };
     let answer = mstp_encode::encode(rule, frame_type, destination, source, body, out);
-    answers::tell(answer, count)
+    answers::tell_count(answer, count)
 }
