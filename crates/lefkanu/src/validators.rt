@@ -32,7 +32,6 @@ pub extern "C" fn lefkanu_validate_mstp_frame(rule: u8, frame: &[u8], res: &mut 
 }
 
 // Checks a BACnet/IP message.
-#[tactic(auto, using(validation_ip::proofs::NoFindings::clean_message))]
 #[unsafe(no_mangle)]
 pub extern "C" fn lefkanu_validate_bacnet_ip_frame(message: &[u8], res: &mut [usize; 32])
     ensures { res.new ≡ result_numbers (ip_result message.now) }
