@@ -6,7 +6,7 @@ mod told;
 
 ghost use Rattle.std.specs.Prelude.{◌≡◌};
 ghost use Rattle.octets.specs.Answer.{answer_number, made_of};
-ghost use Rattle.answers.specs.Told.{found_number, made_of_found, carried_numbers};
+ghost use Rattle.answers.specs.Told.{count_or, found_number, made_of_found, carried_numbers};
 ghost use Rattle.answers.specs.Told.{decoded_destination, decoded_source, decoded_payload};
 ghost use Rattle.answers.specs.Told.{statistics_distribution, statistics_counts};
 ghost use Rattle.answers.specs.Told.{analysis_count, analysis_result, analysis_distribution, analysis_counts};
@@ -46,6 +46,14 @@ pub fn tell<T: Told>(answer: Result<T, Refusal>, out: &mut T::Numbers) -> u8
         }
         Err(refusal) => u8::from(refusal),
     }
+}
+
+// A count: of the octets written, of entries, of reports, of the octets used.
+pub fn tell_count(answer: Result<usize, Refusal>, count: &mut usize) -> u8
+    ensures value { result ≡ answer_number answer }
+    ensures count { count.new ≡ count_or count.old answer }
+{
+    tell(answer, count)
 }
 
 // A value that was found, told as its numbers, or that there is none.

@@ -21,7 +21,7 @@ pub extern "C" fn lefkanu_find_frame(
     ensures report { report.new
         ≡ under_rule rule (λ rule. made_of_found report_numbers report.old (find rule run.now place)) report.old }
 {
-    let Some(rule) = numbers::rule_of(rule) else {
+    let Some(rule) = numbers::rule_named(rule) else {
         return NO_CASE;
     };
     answers::tell_found(run_finder::find_frame(rule, run, place), report)
@@ -34,10 +34,10 @@ pub extern "C" fn lefkanu_count_frames(rule: u8, run: &[u8], count: &mut usize) 
     ensures count { count.new
         ≡ under_rule rule (λ rule. count_or count.old (count_answer rule run.now)) count.old }
 {
-    let Some(rule) = numbers::rule_of(rule) else {
+    let Some(rule) = numbers::rule_named(rule) else {
         return NO_CASE;
     };
-    answers::tell(run_reading::count_frames(rule, run), count)
+    answers::tell_count(run_reading::count_frames(rule, run), count)
 }
 
 // The whole reading of a run: place and octet count of each frame at the front of `out`, whose rest stays, and the count
@@ -56,8 +56,8 @@ pub extern "C" fn lefkanu_read_frames(
         ≡ under_rule rule (λ rule. count_or count.old (read_answer rule run.now out.old))
         count.old }
 {
-    let Some(rule) = numbers::rule_of(rule) else {
+    let Some(rule) = numbers::rule_named(rule) else {
         return NO_CASE;
     };
-    answers::tell(run_reading::read_frames(rule, run, out), count)
+    answers::tell_count(run_reading::read_frames(rule, run, out), count)
 }

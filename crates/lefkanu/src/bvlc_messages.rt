@@ -38,7 +38,7 @@ pub extern "C" fn lefkanu_bvlc_encode(
     let Ok(function) = BvlcFunction::try_from(function) else {
         return NO_CASE;
     };
-    answers::tell(bip_header::encode(function, length, out), count)
+    answers::tell_count(bip_header::encode(function, length, out), count)
 }
 
 // What a message carries, into `carried`; the part of the message that the last two numbers of an NPDU name is the NPDU.

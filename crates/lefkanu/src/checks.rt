@@ -13,7 +13,7 @@ pub extern "C" fn lefkanu_calculate_header_crc(rule: u8, header: &[u8; 5], crc: 
     ensures value { result ≡ under_rule rule (λ _. 0) no_case }
     ensures crc { crc.new ≡ under_rule rule (λ rule. header_check rule header.now) crc.old }
 {
-    let Some(rule) = numbers::rule_of(rule) else {
+    let Some(rule) = numbers::rule_named(rule) else {
         return NO_CASE;
     };
     *crc = crc::calculate_header_crc(rule, *header);
@@ -27,7 +27,7 @@ pub extern "C" fn lefkanu_crc16_mstp(rule: u8, data: &[u8], crc: &mut u16) -> u8
     ensures crc { crc.new
         ≡ under_rule rule (λ rule. data_check rule «data».now) crc.old }
 {
-    let Some(rule) = numbers::rule_of(rule) else {
+    let Some(rule) = numbers::rule_named(rule) else {
         return NO_CASE;
     };
     *crc = crc::crc16_mstp(rule, data);
@@ -40,7 +40,7 @@ pub extern "C" fn lefkanu_header_table(rule: u8, table: &mut [u8; 256]) -> u8
     ensures value { result ≡ under_rule rule (λ _. 0) no_case }
     ensures table { table.new ≡ under_rule rule (λ rule. table_of (header_constant rule)) table.old }
 {
-    let Some(rule) = numbers::rule_of(rule) else {
+    let Some(rule) = numbers::rule_named(rule) else {
         return NO_CASE;
     };
     *table = crc::header_table(rule);
@@ -53,7 +53,7 @@ pub extern "C" fn lefkanu_data_table(rule: u8, table: &mut [u16; 256]) -> u8
     ensures value { result ≡ under_rule rule (λ _. 0) no_case }
     ensures table { table.new ≡ under_rule rule (λ rule. table_of (data_constant rule)) table.old }
 {
-    let Some(rule) = numbers::rule_of(rule) else {
+    let Some(rule) = numbers::rule_named(rule) else {
         return NO_CASE;
     };
     *table = crc::data_table(rule);

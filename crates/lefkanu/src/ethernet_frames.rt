@@ -54,7 +54,7 @@ pub extern "C" fn lefkanu_ethernet_decode_form(
     ensures part { result ≡ 0
         → part_named 0 payload_part.new frame.now ≡ in_form form (λ form. payload form frame.now) [] }
 {
-    let Some(form) = numbers::form_of(form) else {
+    let Some(form) = numbers::form_named(form) else {
         return NO_CASE;
     };
     let answer = ethernet_decode::decode(form, frame);
@@ -86,7 +86,7 @@ pub extern "C" fn lefkanu_ethernet_encode(
         (encode_answer EtherType dest_mac.now src_mac.now body.now out.old) }
 {
     let answer = ethernet_encode::encode(EthernetForm::EtherType, *dest_mac, *src_mac, body, out);
-    answers::tell(answer, count)
+    answers::tell_count(answer, count)
 }
 
 // The same in the form of a number.
@@ -109,9 +109,9 @@ pub extern "C" fn lefkanu_ethernet_encode_form(
         (encode_answer form dest_mac.now src_mac.now body.now out.old))
         count.old }
 {
-    let Some(form) = numbers::form_of(form) else {
+    let Some(form) = numbers::form_named(form) else {
         return NO_CASE;
     };
     let answer = ethernet_encode::encode(form, *dest_mac, *src_mac, body, out);
-    answers::tell(answer, count)
+    answers::tell_count(answer, count)
 }

@@ -37,7 +37,7 @@ pub extern "C" fn lefkanu_detect_patterns(frame: &[u8], out: &mut [u32], count: 
     ensures count { count.new
         ≡ count_or count.old (patterns_answer frame.now out.old) }
 {
-    answers::tell(patterns::detect_patterns(frame, out), count)
+    answers::tell_count(patterns::detect_patterns(frame, out), count)
 }
 
 // Validation, statistics and patterns together.
@@ -68,7 +68,7 @@ pub extern "C" fn lefkanu_analyze_frame(
         ≡ under_rule rule (λ rule. analysis_count count.old (analysis rule frame.now out.old))
         count.old }
 {
-    let Some(rule) = numbers::rule_of(rule) else {
+    let Some(rule) = numbers::rule_named(rule) else {
         return NO_CASE;
     };
     let answer = analysis::analyze_frame(rule, frame, out);

@@ -42,9 +42,9 @@ pub extern "C" fn lefkanu_append(
         (λ time. count_or new_used.old (append_answer buffer.old used kind time payload.now))
         new_used.old }
 {
-    let Some(time) = numbers::time_of(timed, second) else {
+    let Some(time) = numbers::time_named(timed, second) else {
         return NO_CASE;
     };
     let answer = log_append::append(buffer, used, kind, time, payload);
-    answers::tell(answer, new_used)
+    answers::tell_count(answer, new_used)
 }

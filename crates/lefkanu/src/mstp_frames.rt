@@ -30,7 +30,7 @@ pub extern "C" fn lefkanu_mstp_decode(rule: u8, frame: &[u8], header: &mut [usiz
     ensures part { result ≡ 0
         → part_named 6 header.new frame.now ≡ under_rule rule (λ rule. frame_data rule frame.now) [] }
 {
-    let Some(rule) = numbers::rule_of(rule) else {
+    let Some(rule) = numbers::rule_named(rule) else {
         return NO_CASE;
     };
     answers::tell(mstp_decode::decode(rule, frame), header)
@@ -64,12 +64,12 @@ pub extern "C" fn lefkanu_mstp_encode(
         count.old)
         count.old }
 {
-    let Some(rule) = numbers::rule_of(rule) else {
+    let Some(rule) = numbers::rule_named(rule) else {
         return NO_CASE;
     };
     let Some(frame_type) = MstpFrameType::from_u8(frame_type) else {
         return NO_CASE;
     };
     let answer = mstp_encode::encode(rule, frame_type, destination, source, body, out);
-    answers::tell(answer, count)
+    answers::tell_count(answer, count)
 }

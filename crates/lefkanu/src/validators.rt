@@ -20,7 +20,7 @@ pub extern "C" fn lefkanu_validate_mstp_frame(rule: u8, frame: &[u8], res: &mut 
     ensures res { res.new
         ≡ under_rule rule (λ rule. result_numbers (mstp_result rule frame.now)) res.old }
 {
-    let Some(rule) = numbers::rule_of(rule) else {
+    let Some(rule) = numbers::rule_named(rule) else {
         return NO_CASE;
     };
     if validation_mstp::faultless(rule, frame) {
@@ -32,7 +32,6 @@ pub extern "C" fn lefkanu_validate_mstp_frame(rule: u8, frame: &[u8], res: &mut 
 }
 
 // Checks a BACnet/IP message.
-#[tactic(auto, using(validation_ip::proofs::NoFindings::clean_message))]
 #[unsafe(no_mangle)]
 pub extern "C" fn lefkanu_validate_bacnet_ip_frame(message: &[u8], res: &mut [usize; 32])
     ensures { res.new ≡ result_numbers (ip_result message.now) }
@@ -65,7 +64,7 @@ pub extern "C" fn lefkanu_validate_frame(rule: u8, frame: &[u8], res: &mut [usiz
     ensures res { res.new
         ≡ under_rule rule (λ rule. result_numbers (frame_result rule frame.now)) res.old }
 {
-    let Some(rule) = numbers::rule_of(rule) else {
+    let Some(rule) = numbers::rule_named(rule) else {
         return NO_CASE;
     };
     if validation::faultless(rule, frame) {

@@ -89,7 +89,7 @@ pub fn state_numbers(state: PaddingState) -> [usize; 3]
     ensures back { state_of result ≡ Some state }
 {
     [
-        usize::from(state.started),
+        octets::one_if(state.started),
         usize::from(state.last),
         state.run,
     ]
