@@ -13,9 +13,8 @@ ghost use Rattle.findings.specs.Result.{validation_result, no_result};
 
 pub use entries::Entries;
 pub use error::{AddressReason, HeaderReason, ValidationError};
-pub use warning::{ConfigurationReason, SecurityReason, ValidationWarning};
-
 use std::marker::Model;
+pub use warning::{ConfigurationReason, SecurityReason, ValidationWarning};
 
 // What a validator finds: an error or a warning.
 pub trait Finding: Copy {
@@ -71,7 +70,7 @@ pub struct ValidationResult {
     pub warnings: Entries<ValidationWarning, 2>,
 }
 
-// A contract sees the fields. A result is copied where it is used twice.
+// A contract sees the fields. With this a result is copied where it is used twice.
 impl Model for ValidationResult {
     ghost use Rattle.findings.specs.Outcome.{Outcome};
 
