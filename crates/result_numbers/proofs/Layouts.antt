@@ -6,8 +6,8 @@ use mathlib.Core.List.{List, [], ◌∷◌, ◌++◌, map}
 use Prim.Native.Nat.{ℕ, zero, suc, ◌+◌, ◌*◌, ◌-◌, ◌≤◌, ◌<◌}
 use native.Mathlib.Omega.{arith}
 use borrow.Rule.Slice.PartMut.{mid_of, put_mid, same_len_mid}
-use lib.ListN.{length, get_or, replicate, take, drop, take-append-drop, length-take, length-drop, length-map}
-use lib.Seq.{drop-drop}
+use lib.ListN.{length, get_or, replicate, set, take, drop, take-append-drop, length-append, length-take, length-drop, length-map}
+use lib.Seq.{drop-drop, take_at, drop_at, length-take-le, sets-eq}
 use Rattle.std.specs.Prelude.{Option, Some, None}
 use Rattle.std.specs.List.{flat_map}
 use Rattle.std.proofs.lemmas.List.{take_all, take_more, flat_map_more, drop-replicate}
@@ -22,6 +22,14 @@ use Rattle.findings.specs.Warning.{warning_numbers}
 use Rattle.findings.specs.Link.{link_number}
 use Rattle.result_numbers.specs.Layout.{result_numbers}
 
+-- three numbers, one by one
+three : (l : List ℕ) → length l ≡ 3 → get_or l 0 0 ∷ get_or l 1 0 ∷ get_or l 2 0 ∷ [] ≡ l
+three [] is-3 = absurd (omega arith)
+three (a ∷ []) is-3 = absurd (omega arith)
+three (a ∷ b ∷ []) is-3 = absurd (omega arith)
+three (a ∷ b ∷ c ∷ []) is-3 = refl
+three (a ∷ b ∷ c ∷ d ∷ l) is-3 = absurd (omega arith)
+
 -- the numbers of the first i entries are in front, and what is behind them is as it was
 pub record Going {E : Type 0} (f : E → List ℕ) (entries : List E) (old : List ℕ) (i : ℕ) (now : List ℕ) : Type 0 where
   pub front : take (3 * i) now ≡ flat_map f (take i entries)
@@ -32,28 +40,39 @@ module _ {E : Type 0} (f : E → List ℕ) (entries : List E) (old : List ℕ) w
   going_start = record { front = refl; rest = refl }
 
   -- an entry more
-  pub going_next : (i k : ℕ) {now : List ℕ} (d : E) {three : List ℕ} → Going f entries old i now → k ≡ 3 → 3 * i + 3 ≤ length now
-      → i < length entries → three ≡ f (get_or entries i d) → length three ≡ length (take k (drop (3 * i) now))
-      → Going f entries old (i + 1) (put_mid (3 * i) k now three)
-  going_next i k {now} d {three} g is-3 room less is-three same =
-      let many : length three ≡ 3 = omega (arith, length-take k (drop (3 * i) now), length-drop (3 * i) now) in
-      record {
-        front =
-            take-put_mid (3 * i) k now three (3 * (i + 1)) (omega arith) (omega arith)
-            ∙ ap₂ (λ (a b : List ℕ). a ++ b) g.front is-three
-            ∙ one_more;
-        rest = drop-put_mid (3 * i) k now three (3 * (i + 1)) (omega arith) (omega arith) (omega arith) ∙ dropped g.rest;
-      }
+  pub going_next : (i : ℕ) {now : List ℕ} (d : E) {told : List ℕ} → Going f entries old i now → 3 * i + 3 ≤ length now → i < length entries
+      → told ≡ f (get_or entries i d) → length told ≡ 3
+      → Going f entries old (i + 1) (set (set (set now (3 * i) (get_or told 0 0)) (3 * i + 1) (get_or told 1 0)) (3 * i + 2) (get_or told 2 0))
+  going_next i {now} d {told} g room less is-told is-3 = record {
+    front = ap (take (3 * (i + 1))) stored ∙ take_at front behind (3 * (i + 1)) many ∙ ap₂ (λ (a b : List ℕ). a ++ b) g.front is-told ∙ one_more;
+    rest = ap (drop (3 * (i + 1))) stored ∙ drop_at front behind (3 * (i + 1)) many ∙ dropped;
+  }
     where
+      front : List ℕ
+      front = take (3 * i) now ++ told
+
+      behind : List ℕ
+      behind = drop (3 * i + 3) now
+
+      many : length front ≡ 3 * (i + 1)
+      many = omega (arith, length-append (take (3 * i) now) told, length-take-le (3 * i) now (omega arith))
+
+      stored : set (set (set now (3 * i) (get_or told 0 0)) (3 * i + 1) (get_or told 1 0)) (3 * i + 2) (get_or told 2 0) ≡ front ++ behind
+      stored =
+          let one : 3 * i + 1 ≡ suc (3 * i) = omega arith in
+          let two : 3 * i + 2 ≡ suc (suc (3 * i)) = omega arith in
+          ap₂ (λ (m n : ℕ). set (set (set now (3 * i) (get_or told 0 0)) m (get_or told 1 0)) n (get_or told 2 0)) one two
+          ∙ sets-eq (get_or told 0 0 ∷ get_or told 1 0 ∷ get_or told 2 0 ∷ []) now (3 * i) room
+          ∙ ap (λ (l : List ℕ). take (3 * i) now ++ l ++ behind) (three told is-3)
+
       one_more : flat_map f (take i entries) ++ f (get_or entries i d) ≡ flat_map f (take (i + 1) entries)
       one_more = flat_map_more f [] (take i entries) (get_or entries i d) ∙ ap (flat_map f) (sym (take_more entries i d less))
 
-      dropped : drop (3 * i) now ≡ drop (3 * i) old → drop (3 * (i + 1)) now ≡ drop (3 * (i + 1)) old
-      dropped same =
+      dropped : behind ≡ drop (3 * (i + 1)) old
+      dropped =
           let more : 3 * (i + 1) ≡ 3 * i + 3 = omega arith in
-          ap (λ (k : ℕ). drop k now) more
-          ∙ sym (drop-drop 3 (3 * i) now)
-          ∙ ap (drop 3) same
+          sym (drop-drop 3 (3 * i) now)
+          ∙ ap (drop 3) g.rest
           ∙ drop-drop 3 (3 * i) old
           ∙ ap (λ (k : ℕ). drop k old) (sym more)
 

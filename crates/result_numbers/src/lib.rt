@@ -20,16 +20,19 @@ fn put_entries<F: Finding>(entries: &[Option<F>], numbers: &mut [usize])
     ensures { numbers.new ≡ flat_map (entry_numbers F.numbers_of) entries.now ++ drop (3 * length entries.now) numbers.old }
 {
     for i in 0..entries.len() {
-        numbers[3 * i..3 * i + 3].copy_from_slice(&entry_numbers(entries[i]));
+        let [kind, first, second] = entry_numbers(entries[i]);
+        numbers[3 * i] = kind;
+        numbers[3 * i + 1] = first;
+        numbers[3 * i + 2] = second;
     }
 }
 
-// The numbers of a validator's result: 1 if valid else 0, the link, the size, how many errors and warnings, and three
-// numbers for each of the seven entries of errors and the two of warnings.
-pub fn result_numbers(res: ValidationResult) -> [usize; 32]
-    ensures { result ≡ result_numbers res }
+// Puts the numbers of a validator's result in place of others: 1 if valid else 0, the link, the size, how many errors and
+// warnings, and three numbers for each of the seven entries of errors and the two of warnings.
+pub fn put_numbers(res: &ValidationResult, numbers: &mut [usize; 32])
+    ensures { numbers.new ≡ result_numbers res.now }
 {
-    let mut numbers = [0; 32];
+    *numbers = [0; 32];
     numbers[0] = octets::one_if(res.is_valid);
     numbers[1] = usize::from(link_number(res.link_type));
     numbers[2] = res.frame_size;
@@ -37,6 +40,14 @@ pub fn result_numbers(res: ValidationResult) -> [usize; 32]
     numbers[4] = res.warnings.len();
     put_entries(res.errors.found(), &mut numbers[ERRORS..WARNINGS]);
     put_entries(res.warnings.found(), &mut numbers[WARNINGS..]);
+}
+
+// The numbers of a validator's result.
+pub fn result_numbers(res: ValidationResult) -> [usize; 32]
+    ensures { result ≡ result_numbers res }
+{
+    let mut numbers = [0; 32];
+    put_numbers(&res, &mut numbers);
     numbers
 }
 

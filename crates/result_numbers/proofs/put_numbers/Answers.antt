@@ -1,10 +1,10 @@
--- `result_numbers::result_numbers` meets its contract: the numbers in front and those of the entries are the definition's.
+-- `result_numbers::put_numbers` meets its contract: the numbers in front and those of the entries are the definition's.
 -- Assumes nothing.
 use mathlib.Core.Path.{ap, ◌∙◌}
 use Rattle.std.proofs.Common.{rules}
 use Rattle.result_numbers.specs.Layout.{result_numbers}
 use Rattle.result_numbers.proofs.Layouts.{laid_out}
-use Rattle.result_numbers.proofs.result_numbers.Goals as goal
+use Rattle.result_numbers.proofs.put_numbers.Goals as goal
 
 pub returns : goal.returns
 returns c =
