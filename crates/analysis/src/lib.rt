@@ -10,6 +10,7 @@ use crc::CheckRule;
 use findings::ValidationResult;
 use octets::Refusal;
 use statistics::FrameStatistics;
+use std::marker::Model;
 
 // What the analysis answers: the count of entries in the lent list, the validation and the statistics.
 #[derive(Clone, Copy)]
@@ -17,6 +18,17 @@ pub struct FrameAnalysis {
     pub patterns: usize,
     pub validation: ValidationResult,
     pub statistics: FrameStatistics,
+}
+
+// A contract sees the fields. With this an analysis is copied where it is used twice.
+impl Model for FrameAnalysis {
+    ghost use Rattle.analysis.specs.Outcome.{Outcome};
+
+    ghost Value = { Outcome };
+
+    ghost view = { λ a. record { patterns = a.patterns; validation = a.validation; statistics = a.statistics } };
+
+    ghost inverse = { λ v. record { patterns = v.patterns; validation = v.validation; statistics = v.statistics } };
 }
 
 // Validates a frame, counts its octets and writes its patterns at the front of `out`, whose rest stays. The longest run is

@@ -4,7 +4,8 @@ use mathlib.Core.Path.{◌≡◌, refl, sym, ap, ◌∙◌}
 use mathlib.Core.List.{List, [], ◌∷◌, ◌++◌, map}
 use Prim.Native.Nat.{ℕ, zero, suc, ◌+◌, ◌-◌, ◌<◌}
 use native.Mathlib.Omega.{arith}
-use lib.ListN.{length, replicate, set, take, length-append}
+use lib.ListN.{length, replicate, set, take, length-append, length-map}
+use lib.Seq.{take_at}
 use Rattle.std.specs.Prelude.{Option, Some, None}
 use Rattle.std.specs.Option.{some_prefix}
 use Rattle.std.proofs.lemmas.List.{take_all}
@@ -73,3 +74,12 @@ module _ {F : Type 0} {n : ℕ} {entries : List (Option F)} {count : ℕ} (h : H
   added {old} is-old =
       more_shown
       ∙ rw is-old (sym (take_all n (old ++ finding ∷ []) (omega (arith, h.many, ap length is-old, length-append old (finding ∷ [])))))
+
+-- the entries that are used
+module _ {F : Type 0} {n : ℕ} {entries : List (Option F)} {count : ℕ} (h : Holds n entries count) where
+  pub used : {findings : List F} → some_prefix entries ≡ findings → take count entries ≡ map Some findings
+  unfolding filled
+  used {findings} is =
+      let all : List (Option F) = map Some (some_prefix entries) in
+      let many : length all ≡ count = length-map (some_prefix entries) Some ∙ sym h.many in
+      ap (take count) h.are ∙ take_at all _ count many ∙ ap (map Some) is

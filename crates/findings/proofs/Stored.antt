@@ -15,7 +15,7 @@ use Rattle.findings.specs.declared.error.ValidationError.TheVariants.{FrameTooSh
 use Rattle.findings.specs.declared.warning.ValidationWarning.{ValidationWarning}
 use Rattle.findings.specs.declared.LinkType.{LinkType}
 use Rattle.findings.specs.declared.ValidationResult.{ValidationResult}
-use Rattle.findings.specs.Result.{Test, finds, given, found, errors_of, warnings_of, validation_result, is_valid}
+use Rattle.findings.specs.Result.{Test, finds, given, found, errors_of, warnings_of, validation_result}
 
 module _ {F : Type 0} where
   -- what is taken of a front does not depend on what was cut off it
@@ -66,7 +66,7 @@ module _ {F : Type 0} where
 module _ (link : Option LinkType) (size minimum : ℕ) (error_tests : List (Test ValidationError)) (warning_tests : List (Test ValidationWarning)) (P : Bool → Type 0)
     (promised : P (eqb (length (errors_of minimum size error_tests)) 0)) where
   abbrev Answer : ValidationResult → Type 0
-  Answer r = (r ≡ validation_result link size (errors_of minimum size error_tests) (warnings_of minimum size warning_tests)) × P (is_valid r)
+  Answer r = (r ≡ validation_result link size (errors_of minimum size error_tests) (warnings_of minimum size warning_tests)) × P r.is_valid
 
   answer : {r : ValidationResult} → r ≡ validation_result link size (errors_of minimum size error_tests) (warnings_of minimum size warning_tests) → Answer r
   answer e = (e, rw e promised)
@@ -77,9 +77,16 @@ module _ (link : Option LinkType) (size minimum : ℕ) (error_tests : List (Test
   short_answer less is-r = answer (is-r ∙ rw (lt-ltb size minimum less))
 
   -- long enough: the findings of the tests
-  pub stored_answer : {errors : List ValidationError} {warnings : List ValidationWarning} {r : ValidationResult} → minimum ≤ size
-      → Stored 7 error_tests errors → length error_tests ≤ 7 → Stored 2 warning_tests warnings → length warning_tests ≤ 2
-      → r ≡ validation_result link size errors warnings → Answer r
+  pub stored_answer : {errors : List ValidationError} {warnings : List ValidationWarning} {n : ℕ} {r : ValidationResult} → minimum ≤ size
+      → Stored 7 error_tests errors → length error_tests ≤ 7 → Stored 2 warning_tests warnings → length warning_tests ≤ 2 → n ≡ length errors
+      → r ≡ (record {
+        is_valid = eqb n 0;
+        link_type = link;
+        frame_size = size;
+        errors = errors;
+        warnings = warnings;
+      })
+      → Answer r
   unfolding errors_of warnings_of
-  stored_answer long e few_errors w few_warnings is-r =
-      answer (is-r ∙ rw (le-ltb size minimum long, all error_tests e few_errors, all warning_tests w few_warnings))
+  stored_answer long e few_errors w few_warnings many is-r =
+      answer (is-r ∙ rw (many, le-ltb size minimum long, all error_tests e few_errors, all warning_tests w few_warnings))

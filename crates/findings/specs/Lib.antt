@@ -1,5 +1,6 @@
 pub mod Entries
 pub mod Error
 pub mod Link
+pub mod Outcome
 pub mod Result
 pub mod Warning

@@ -1,6 +1,6 @@
--- The result of a validator: link, size, and the findings in the order of its tests.
+-- The result of a validator: link, size, validity, and the findings in the order of its tests.
 -- Assumes nothing.
-use Rattle.std.specs.Prelude.{ℕ, Bool, cond, ◌&&◌, List, [], ◌∷◌, eqb, ltb, length, Option}
+use Rattle.std.specs.Prelude.{ℕ, Bool, false, cond, ◌&&◌, List, [], ◌∷◌, eqb, ltb, length, Option, None}
 use Rattle.std.specs.Bool.{then_some}
 use Rattle.findings.specs.declared.error.ValidationError.{ValidationError}
 use Rattle.findings.specs.declared.error.ValidationError.TheVariants.{FrameTooShort}
@@ -30,19 +30,26 @@ errors_of minimum size tests = cond (ltb size minimum) (FrameTooShort size minim
 unfoldable pub warnings_of : ℕ → ℕ → List (Test ValidationWarning) → List ValidationWarning
 warnings_of minimum size tests = cond (ltb size minimum) [] (found tests)
 
--- a result: link, size, errors and warnings
+-- a result: link, size, errors and warnings; valid means no errors
 abbrev pub validation_result : Option LinkType → ℕ → List ValidationError → List ValidationWarning → ValidationResult
 validation_result link size errors warnings = record {
+  is_valid = eqb (length errors) 0;
   link_type = link;
   frame_size = size;
   errors = errors;
   warnings = warnings;
 }
 
--- valid means no errors
-abbrev pub is_valid : ValidationResult → Bool
-is_valid r = eqb (length r.errors) 0
-
 -- neither an error nor a warning
 unfoldable pub faultless : ValidationResult → Bool
 faultless r = eqb (length r.errors) 0 && eqb (length r.warnings) 0
+
+-- zeros: what stands where nothing was validated
+abbrev pub no_result : ValidationResult
+no_result = record {
+  is_valid = false;
+  link_type = None;
+  frame_size = 0;
+  errors = [];
+  warnings = [];
+}

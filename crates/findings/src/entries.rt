@@ -1,5 +1,5 @@
 // The findings of one kind, at most N of them in fixed memory.
-ghost use Rattle.std.specs.Prelude.{◌≡◌, ◌≤◌, ◌++◌, [], ⊤, length, take, option_to_list};
+ghost use Rattle.std.specs.Prelude.{◌≡◌, ◌≤◌, ◌++◌, [], ⊤, length, map, take, option_to_list, Some};
 ghost use Rattle.std.specs.Bool.{then_some};
 ghost use Rattle.findings.specs.Entries.{filled};
 
@@ -74,6 +74,13 @@ impl<F: Copy, const N: usize> Entries<F, N> {
         ensures fits { result ≤ N }
     {
         self.count
+    }
+
+    // The findings, without the unused entries.
+    pub fn found(&self) -> &[Option<F>]
+        ensures { result.now ≡ map Some self.now }
+    {
+        &self.entries[..self.count]
     }
 
     // The findings, and unused entries behind them.

@@ -9,10 +9,11 @@ ghost use Rattle.std.specs.Prelude.{◌≡◌, ℕ, List, [], ◌∷◌, Some};
 ghost use Rattle.findings.specs.Entries.{entry_numbers};
 ghost use Rattle.findings.specs.declared.error.ValidationError.TheVariants.{FrameTooShort};
 ghost use Rattle.findings.specs.Link.{link_number};
-ghost use Rattle.findings.specs.Result.{validation_result, is_valid};
+ghost use Rattle.findings.specs.Result.{validation_result, no_result};
 
 pub use entries::Entries;
 pub use error::{AddressReason, HeaderReason, ValidationError};
+use std::marker::Model;
 pub use warning::{ConfigurationReason, SecurityReason, ValidationWarning};
 
 // What a validator finds: an error or a warning.
@@ -58,9 +59,10 @@ pub fn link_number(link: Option<LinkType>) -> u8
     link.map_or(0, u8::from)
 }
 
-// What a validator answers.
+// What a validator answers. Valid means no errors.
 #[derive(Clone, Copy)]
 pub struct ValidationResult {
+    pub is_valid: bool,
     // The link that the frame was taken for, if one was.
     pub link_type: Option<LinkType>,
     pub frame_size: usize,
@@ -68,12 +70,29 @@ pub struct ValidationResult {
     pub warnings: Entries<ValidationWarning, 2>,
 }
 
+// A contract sees the fields. With this a result is copied where it is used twice.
+impl Model for ValidationResult {
+    ghost use Rattle.findings.specs.Outcome.{Outcome};
+
+    ghost Value = { Outcome };
+
+    ghost view = { λ a. record { is_valid = a.is_valid; link_type = a.link_type; frame_size = a.frame_size; errors = a.errors; warnings = a.warnings } };
+
+    ghost inverse = { λ v. record { is_valid = v.is_valid; link_type = v.link_type; frame_size = v.frame_size; errors = v.errors; warnings = v.warnings } };
+}
+
 impl ValidationResult {
-    // Whether the frame is valid: there are no errors.
-    pub fn is_valid(&self) -> bool
-        ensures { result ≡ is_valid self.now }
+    // Zeros: what stands where nothing was validated.
+    pub fn zeros() -> ValidationResult
+        ensures { result ≡ no_result }
     {
-        self.errors.len() == 0
+        ValidationResult {
+            is_valid: false,
+            link_type: None,
+            frame_size: 0,
+            errors: Entries::new(),
+            warnings: Entries::new(),
+        }
     }
 
     // A result with one error alone.
@@ -87,6 +106,7 @@ impl ValidationResult {
         let mut errors = Entries::new();
         errors.add(Some(error));
         ValidationResult {
+            is_valid: false,
             link_type,
             frame_size,
             errors,

@@ -27,7 +27,7 @@ pub extern "C" fn lefkanu_validate_mstp_frame(rule: u8, frame: &[u8], res: &mut 
         *res = result_numbers::clean_numbers(Some(LinkType::MsTP), frame.len());
         return 0;
     }
-    *res = result_numbers::result_numbers(validation_mstp::validate_mstp_frame(rule, frame));
+    result_numbers::put_numbers(&validation_mstp::validate_mstp_frame(rule, frame), res);
     0
 }
 
@@ -40,7 +40,7 @@ pub extern "C" fn lefkanu_validate_bacnet_ip_frame(message: &[u8], res: &mut [us
         *res = result_numbers::clean_numbers(Some(LinkType::BacnetIp), message.len());
         return;
     }
-    *res = result_numbers::result_numbers(validation_ip::validate_bacnet_ip_frame(message));
+    result_numbers::put_numbers(&validation_ip::validate_bacnet_ip_frame(message), res);
 }
 
 // Checks an Ethernet frame.
@@ -53,7 +53,7 @@ pub extern "C" fn lefkanu_validate_ethernet_frame(frame: &[u8], res: &mut [usize
         *res = result_numbers::clean_numbers(Some(LinkType::Ethernet), frame.len());
         return;
     }
-    *res = result_numbers::result_numbers(validation_ethernet::validate_ethernet_frame(frame));
+    result_numbers::put_numbers(&validation_ethernet::validate_ethernet_frame(frame), res);
 }
 
 // Checks a frame by the validator of the link that its octets tell.
@@ -71,6 +71,6 @@ pub extern "C" fn lefkanu_validate_frame(rule: u8, frame: &[u8], res: &mut [usiz
         *res = result_numbers::clean_numbers(validation::link_of(frame), frame.len());
         return 0;
     }
-    *res = result_numbers::result_numbers(validation::validate_frame(rule, frame));
+    result_numbers::put_numbers(&validation::validate_frame(rule, frame), res);
     0
 }

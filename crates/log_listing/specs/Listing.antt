@@ -5,7 +5,6 @@ use mathlib.Core.List.{List, [], ◌∷◌, ◌++◌, flat_map}
 use Rattle.octets.specs.Refusal.{refusal_number}
 use Rattle.text.specs.Text.{letters, texts, field}
 use Rattle.crc.specs.declared.CheckRule.TheVariants.{AnnexG}
-use Rattle.findings.specs.Result.{is_valid}
 use Rattle.validation_mstp.specs.Tests.{mstp_result}
 use Rattle.validation_ip.specs.Tests.{ip_result}
 use Rattle.validation_ethernet.specs.Tests.{ethernet_result}
@@ -21,8 +20,8 @@ use Rattle.log_reading.specs.Torn.{whole_entries, last_answer}
 -- the validator of a record's kind is content
 unfoldable pub valid : ℕ → List ℕ → Bool
 valid kind payload =
-    cond (eqb kind 1) (is_valid (mstp_result AnnexG payload))
-    (cond (eqb kind 2) (is_valid (ip_result payload)) (is_valid (ethernet_result payload)))
+    cond (eqb kind 1) (mstp_result AnnexG payload).is_valid
+    (cond (eqb kind 2) (ip_result payload).is_valid (ethernet_result payload).is_valid)
 
 -- the frames that a whole reading of a bus record finds; 0 for the other kinds
 unfoldable pub frames : ℕ → List ℕ → ℕ

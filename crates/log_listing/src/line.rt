@@ -15,10 +15,10 @@ fn valid(kind: RecordKind, payload: &[u8]) -> bool
 {
     match kind {
         RecordKind::Bus => {
-            validation_mstp::validate_mstp_frame(CheckRule::AnnexG, payload).is_valid()
+            validation_mstp::validate_mstp_frame(CheckRule::AnnexG, payload).is_valid
         }
-        RecordKind::Ip => validation_ip::validate_bacnet_ip_frame(payload).is_valid(),
-        RecordKind::Ethernet => validation_ethernet::validate_ethernet_frame(payload).is_valid(),
+        RecordKind::Ip => validation_ip::validate_bacnet_ip_frame(payload).is_valid,
+        RecordKind::Ethernet => validation_ethernet::validate_ethernet_frame(payload).is_valid,
     }
 }
 

@@ -19,7 +19,7 @@ fn print_entry<P: Print>(to: &P, numbers: [usize; 3]) {
 
 // Prints the result of a validator: v for valid, x for not, the link, the size, the counts and all entries.
 pub(crate) fn print_result<P: Print>(to: &P, res: ValidationResult) {
-    print::letters(to, if res.is_valid() { b"v" } else { b"x" });
+    print::letters(to, if res.is_valid { b"v" } else { b"x" });
     print::number(to, usize::from(findings::link_number(res.link_type)), 1);
     print::number(to, res.frame_size, 6);
     print::number(to, res.errors.len(), 1);

@@ -7,12 +7,11 @@ use Rattle.findings.specs.Entries.{filled, entry_numbers}
 use Rattle.findings.specs.Error.{error_numbers}
 use Rattle.findings.specs.Warning.{warning_numbers}
 use Rattle.findings.specs.Link.{link_number}
-use Rattle.findings.specs.Result.{is_valid}
 
 -- a validator's result: validity, link, size, both counts, then the entries of errors and of warnings, three numbers each
 unfoldable pub result_numbers : ValidationResult → List ℕ
 result_numbers r =
-    cond (is_valid r) 1 0
+    cond r.is_valid 1 0
     ∷ link_number r.link_type
     ∷ r.frame_size
     ∷ length r.errors

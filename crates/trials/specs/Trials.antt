@@ -11,7 +11,6 @@ use Rattle.mstp_encode.specs.Encode.{encode_answer, encode_output}
 use Rattle.bip_header.specs.declared.function.BvlcFunction.TheVariants.{OriginalBroadcastNpdu}
 use Rattle.bip_header.specs.Header.{new_header, decode}
 use Rattle.bip_message.specs.Message.{process}
-use Rattle.findings.specs.Result.{is_valid}
 use Rattle.validation_ip.specs.Tests.{ip_result}
 use Rattle.patterns.specs.Detect.{patterns_answer, patterns_output}
 use Rattle.trials.specs.Trial.{Trial, ◌gives◌, EachHolds}
@@ -84,7 +83,7 @@ table =
     -- (h) eight zeros, four FF: padding at 8 and "zeros"
     ∷ patterns_of (zeros 8 ++ replicate 4 0xFF) gives (Ok 2, padding 8 4 0xFF ++ all_zeros)
     -- (i) 81 0D 00 04: validator content,
-    ∷ is_valid (ip_result (message 0x0D)) gives true
+    ∷ (ip_result (message 0x0D)).is_valid gives true
     -- reading 13
     ∷ decode (message 0x0D) gives refused 13
     -- (j) 81 0B 00 04: header read,

@@ -2,7 +2,7 @@
 #![tactic(auto)]
 
 ghost use Rattle.std.specs.Prelude.{◌≡◌};
-ghost use Rattle.findings.specs.Result.{is_valid, faultless};
+ghost use Rattle.findings.specs.Result.{faultless};
 ghost use Rattle.validation_ethernet.specs.Tests.{broadcast, multicast, ethernet_result};
 ghost use Rattle.validation_ethernet.specs.Validity.{AgreesWithEthernet};
 
@@ -36,7 +36,7 @@ fn is_multicast(address: [u8; 6]) -> bool
 // ethernet.rs's validator accepts.
 pub fn validate_ethernet_frame(frame: &[u8]) -> ValidationResult
     ensures value { result ≡ ethernet_result frame.now }
-    ensures agrees { AgreesWithEthernet frame.now (is_valid result) }
+    ensures agrees { AgreesWithEthernet frame.now result.is_valid }
 {
     let size = frame.len();
     let [
@@ -100,6 +100,7 @@ pub fn validate_ethernet_frame(frame: &[u8]) -> ValidationResult
         ValidationWarning::UnusualFrameSize { size },
     );
     ValidationResult {
+        is_valid: errors.len() == 0,
         link_type: Some(LinkType::Ethernet),
         frame_size: size,
         errors,

@@ -2,7 +2,7 @@
 #![tactic(auto)]
 
 ghost use Rattle.std.specs.Prelude.{◌≡◌};
-ghost use Rattle.findings.specs.Result.{is_valid, faultless};
+ghost use Rattle.findings.specs.Result.{faultless};
 ghost use Rattle.validation_ip.specs.Tests.{changes_table, ip_result};
 ghost use Rattle.validation_ip.specs.Validity.{ValidAsRead};
 
@@ -31,7 +31,7 @@ fn changes_table(function: u8) -> bool
 // `decode` accepts, as many as it says and at most 1497; and so with function 0D, which `decode` refuses.
 pub fn validate_bacnet_ip_frame(message: &[u8]) -> ValidationResult
     ensures value { result ≡ ip_result message.now }
-    ensures read { ValidAsRead message.now (is_valid result) }
+    ensures read { ValidAsRead message.now result.is_valid }
 {
     let size = message.len();
     let [bvlc_type, function, high, low, ..] = message else {
@@ -79,6 +79,7 @@ pub fn validate_bacnet_ip_frame(message: &[u8]) -> ValidationResult
         },
     );
     ValidationResult {
+        is_valid: errors.len() == 0,
         link_type: Some(LinkType::BacnetIp),
         frame_size: size,
         errors,

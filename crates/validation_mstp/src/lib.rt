@@ -3,7 +3,7 @@
 
 ghost use Rattle.std.specs.Prelude.{◌≡◌, not, eqb, length};
 ghost use Rattle.octets.specs.Range.{within};
-ghost use Rattle.findings.specs.Result.{found, given, is_valid, faultless};
+ghost use Rattle.findings.specs.Result.{found, given, faultless};
 ghost use Rattle.validation_mstp.specs.Tests.{data_check_test, master_to_slave, warning_tests, errorless, mstp_result};
 ghost use Rattle.validation_mstp.specs.Validity.{ValidAsRead};
 
@@ -56,7 +56,7 @@ fn master_to_slave(rule: CheckRule, frame_type: u8, destination: u8, source: u8)
 // accepts, with a source other than 255 and at most 501 data octets; and so with a type of 128 or more.
 pub fn validate_mstp_frame(rule: CheckRule, frame: &[u8]) -> ValidationResult
     ensures value { result ≡ mstp_result rule frame.now }
-    ensures read { ValidAsRead rule frame.now (is_valid result) }
+    ensures read { ValidAsRead rule frame.now result.is_valid }
 {
     let size = frame.len();
     if size < MSTP_HEADER_SIZE {
@@ -123,6 +123,7 @@ pub fn validate_mstp_frame(rule: CheckRule, frame: &[u8]) -> ValidationResult
         },
     );
     ValidationResult {
+        is_valid: errors.len() == 0,
         link_type: Some(LinkType::MsTP),
         frame_size: size,
         errors,
@@ -160,5 +161,5 @@ fn warned(rule: CheckRule, frame: &[u8]) -> bool
 pub fn faultless(rule: CheckRule, frame: &[u8]) -> bool
     ensures { result ≡ faultless (mstp_result rule frame.now) }
 {
-    !warned(rule, frame) && errorless(rule, frame)
+    MSTP_HEADER_SIZE <= frame.len() && !warned(rule, frame) && errorless(rule, frame)
 }

@@ -34,5 +34,5 @@ returns c =
     c.add_if-3.ensures (rw header))
     (omega arith)
     (next _ (next _ (none c.new-warnings.ensures) d refl) c.add_if-5.ensures refl)
-    (omega arith) refl in
+    (omega arith) c.len.ensures.value refl in
     record { value = all.0; agrees = all.1 }

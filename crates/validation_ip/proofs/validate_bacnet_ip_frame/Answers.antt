@@ -30,5 +30,5 @@ returns c =
     (next _ (next _ (next _ (next _ (none c.new-errors.ensures) a refl) c.add_if-2.ensures refl) b refl) c.add_if-4.ensures refl)
     (omega arith)
     (next _ (next _ (none c.new-warnings.ensures) c.add_if-5.ensures refl) d refl)
-    (omega arith) refl in
+    (omega arith) c.len.ensures.value refl in
     record { value = all.0; read = all.1 }

@@ -37,5 +37,5 @@ returns c =
     (next _
     (next _ (next _ (next _ (next _ (next _ (next _ (none c.new-errors.ensures) preamble refl) type refl) source refl) length refl) check refl) size refl)
     c.add.ensures c.data_check_error.ensures)
-    (omega arith) (next _ (next _ (none c.new-warnings.ensures) proprietary refl) slave refl) (omega arith) refl in
+    (omega arith) (next _ (next _ (none c.new-warnings.ensures) proprietary refl) slave refl) (omega arith) c.len.ensures.value refl in
     record { value = all.0; read = all.1 }
