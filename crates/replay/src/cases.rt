@@ -59,12 +59,12 @@ fn answer_to<P: Print>(to: &P, kind: u8, rule: CheckRule, input: &[u8], size: us
         b'R' => mstp_cases::reading(to, rule, input),
         b'V' => ethernet_cases::validation(to, input),
         b'W' => writing(to, size, |out| mstp_cases::write(rule, input, out)),
-        // No list has another kind.
-        _ => (),
+        // No list has another kind: no call is told.
+        _ => writing(to, size, |_| None),
     }
 }
 
-// Writing into an output of that size: the answer, then the output and some octets behind it. Nothing where no call is told.
+// Writing into an output of that size: the answer, None where no call is told, then the output and some octets behind it.
 fn writing<P: Print, F: FnOnce(&mut [u8]) -> Option<Result<usize, Refusal>>>(
     to: &P,
     size: usize,
@@ -73,9 +73,8 @@ fn writing<P: Print, F: FnOnce(&mut [u8]) -> Option<Result<usize, Refusal>>>(
     requires { F.IsAlwaysCallable write }
 {
     let mut out = [answers::BEFORE; SPACE];
-    if size <= SPACE
-        && let Some(written) = write(&mut out[..size])
-    {
+    if size <= SPACE {
+        let written = write(&mut out[..size]);
         answers::print_written(to, written, &out, size);
     }
 }
