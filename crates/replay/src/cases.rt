@@ -21,6 +21,22 @@ pub(crate) fn answer<R: Read, P: Print>(from: &mut R, to: &P, kind: u8) {
     let rule = spelling::rule_of(input::letter(from));
     let zeros = input::number(from);
     let size = input::number(from);
+    answer_octets(from, to, kind, rule, zeros, size);
+    print::letters(to, b"\n");
+}
+
+// Reads the octets of a case, puts in the zeros, and answers it. By itself, so that the room is filled once: a function
+// fills its arrays where it begins, too.
+fn answer_octets<R: Read, P: Print>(
+    from: &mut R,
+    to: &P,
+    kind: u8,
+    rule: CheckRule,
+    zeros: usize,
+    size: usize,
+)
+    requires { zeros < 65536 }
+{
     let mut octets = [0; SPACE];
     let told = input::octets(from, MOST, &mut octets);
     let n = told + zeros;
@@ -28,7 +44,6 @@ pub(crate) fn answer<R: Read, P: Print>(from: &mut R, to: &P, kind: u8) {
         insert_zeros(&mut octets, told, n);
         answer_to(to, kind, rule, &octets[..n], size);
     }
-    print::letters(to, b"\n");
 }
 
 // Moves the last two of the octets told behind the zeros that stand between them and n.
