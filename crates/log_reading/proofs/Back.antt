@@ -21,4 +21,4 @@ module _ {own log : List ℕ} (at next : ℕ) {answer : Option (Result LogRecord
   refusal_next is = (here is).0
 
   pub none_next : answer ≡ None → read_record log at ≡ Ok None
-  none_next is = here is
+  none_next is = (here is).0

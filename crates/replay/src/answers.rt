@@ -32,16 +32,18 @@ pub(crate) fn print_refusal<P: Print>(to: &P, refusal: Refusal) {
     print::labelled(to, &[b'E', letter(refusal)], usize::from(question), 2);
 }
 
-// Prints what a writer answered, the count or the refusal, then its output of that size and some octets behind it.
+// Prints what a writer answered, the count or the refusal, then its output of that size and some octets behind it. Where no
+// call is told, it prints a refusal of question 0, which is none.
 pub(crate) fn print_written<P: Print>(
     to: &P,
-    written: Result<usize, Refusal>,
+    written: Option<Result<usize, Refusal>>,
     out: &[u8],
     size: usize,
 ) {
     match written {
-        Ok(count) => print::labelled(to, b"F", count, 4),
-        Err(refusal) => print_refusal(to, refusal),
+        Some(Ok(count)) => print::labelled(to, b"F", count, 4),
+        Some(Err(refusal)) => print_refusal(to, refusal),
+        None => print::letters(to, b"EN 00"),
     }
     print::letters(to, b" ");
     print::octets(to, out, size.saturating_add(BEHIND).min(MOST));

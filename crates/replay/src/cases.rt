@@ -21,6 +21,22 @@ pub(crate) fn answer<R: Read, P: Print>(from: &mut R, to: &P, kind: u8) {
     let rule = spelling::rule_of(input::letter(from));
     let zeros = input::number(from);
     let size = input::number(from);
+    answer_octets(from, to, kind, rule, zeros, size);
+    print::letters(to, b"\n");
+}
+
+// Reads the octets of a case, puts in the zeros, and answers it. By itself, so that the room is filled once: a function
+// fills its arrays where it begins, too.
+fn answer_octets<R: Read, P: Print>(
+    from: &mut R,
+    to: &P,
+    kind: u8,
+    rule: CheckRule,
+    zeros: usize,
+    size: usize,
+)
+    requires { zeros < 65536 }
+{
     let mut octets = [0; SPACE];
     let told = input::octets(from, MOST, &mut octets);
     let n = told + zeros;
@@ -28,7 +44,6 @@ pub(crate) fn answer<R: Read, P: Print>(from: &mut R, to: &P, kind: u8) {
         insert_zeros(&mut octets, told, n);
         answer_to(to, kind, rule, &octets[..n], size);
     }
-    print::letters(to, b"\n");
 }
 
 // Moves the last two of the octets told behind the zeros that stand between them and n.
@@ -59,12 +74,12 @@ fn answer_to<P: Print>(to: &P, kind: u8, rule: CheckRule, input: &[u8], size: us
         b'R' => mstp_cases::reading(to, rule, input),
         b'V' => ethernet_cases::validation(to, input),
         b'W' => writing(to, size, |out| mstp_cases::write(rule, input, out)),
-        // No list has another kind.
-        _ => (),
+        // No list has another kind: no call is told.
+        _ => writing(to, size, |_| None),
     }
 }
 
-// Writing into an output of that size: the answer, then the output and some octets behind it. Nothing where no call is told.
+// Writing into an output of that size: the answer, None where no call is told, then the output and some octets behind it.
 fn writing<P: Print, F: FnOnce(&mut [u8]) -> Option<Result<usize, Refusal>>>(
     to: &P,
     size: usize,
@@ -73,9 +88,8 @@ fn writing<P: Print, F: FnOnce(&mut [u8]) -> Option<Result<usize, Refusal>>>(
     requires { F.IsAlwaysCallable write }
 {
     let mut out = [answers::BEFORE; SPACE];
-    if size <= SPACE
-        && let Some(written) = write(&mut out[..size])
-    {
+    if size <= SPACE {
+        let written = write(&mut out[..size]);
         answers::print_written(to, written, &out, size);
     }
 }

@@ -70,7 +70,7 @@ pub(crate) fn print_statistics_answer<P: Print>(to: &P, answer: Result<FrameStat
             print_statistics(to, statistics);
         }
         Err(refusal) => {
-            print::refusal(to, refusal);
+            print::refusal(to, u8::from(refusal));
             print_no_statistics(to);
         }
     }
@@ -106,7 +106,7 @@ pub(crate) fn print_analysis<P: Print>(to: &P, answer: Result<FrameAnalysis, Ref
             print_statistics(to, analysis.statistics);
         }
         Err(refusal) => {
-            print::refusal(to, refusal);
+            print::refusal(to, u8::from(refusal));
             print::letters(to, b" ");
             print_no_result(to);
             print_no_statistics(to);

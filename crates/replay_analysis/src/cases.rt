@@ -40,13 +40,16 @@ fn answer_to<P: Print>(to: &P, kind: u8, rule: CheckRule, frame: &[u8], size: us
         b'F' => answers::print_result(to, validation::validate_frame(rule, frame)),
         b'I' => answers::print_result(to, validation_ip::validate_bacnet_ip_frame(frame)),
         b'M' => answers::print_result(to, validation_mstp::validate_mstp_frame(rule, frame)),
-        b'P' => with_list(to, size, |list| {
-            print::count(to, b"F", patterns::detect_patterns(frame, list))
-        }),
         b'S' => answers::print_statistics_answer(to, statistics::calculate_frame_statistics(frame)),
         b'W' => answers::print_steps(to, frame),
-        // No list has another kind.
-        _ => (),
+        // Patterns: P in the lists, and no list has another kind.
+        _ => with_list(to, size, |list| {
+            print::count(
+                to,
+                b"F",
+                patterns::detect_patterns(frame, list).map_err(u8::from),
+            )
+        }),
     }
 }
 

@@ -1,7 +1,5 @@
 // What an answer is printed on, in lower case hexadecimal digits. No contract can say what was printed: these functions have
 // none.
-use octets::Refusal;
-
 // Prints letters.
 pub fn letters<P: Print>(to: &P, letters: &[u8]) {
     let _ = to.write_all(letters);
@@ -26,16 +24,16 @@ pub fn labelled<P: Print>(to: &P, label: &[u8], value: usize, least: usize) {
     number(to, value, least);
 }
 
-// Prints a refusal: E and the question.
-pub fn refusal<P: Print>(to: &P, refusal: Refusal) {
-    labelled(to, b"E", usize::from(u8::from(refusal)), 2);
+// Prints a refusal: E and the question. It is a number and no `Refusal`: any number is printed.
+pub fn refusal<P: Print>(to: &P, question: u8) {
+    labelled(to, b"E", usize::from(question), 2);
 }
 
-// Prints a count behind its label, or the refusal.
-pub fn count<P: Print>(to: &P, label: &[u8], res: Result<usize, Refusal>) {
+// Prints a count behind its label, or the refusal, whose question is any number too.
+pub fn count<P: Print>(to: &P, label: &[u8], res: Result<usize, u8>) {
     match res {
         Ok(count) => labelled(to, label, count, 4),
-        Err(e) => refusal(to, e),
+        Err(question) => refusal(to, question),
     }
 }
 

@@ -31,7 +31,7 @@ pub(crate) fn print_read<P: Print>(
     match read {
         Ok(Some(record)) => print_record(to, record, payload),
         Ok(None) => print::letters(to, b"S"),
-        Err(refusal) => print::refusal(to, refusal),
+        Err(refusal) => print::refusal(to, u8::from(refusal)),
     }
 }
 

@@ -66,7 +66,7 @@ fn append<R: Read, P: Print>(from: &mut R, to: &P, buffer: &mut [u8]) {
     print::count(
         to,
         b"U",
-        log_append::append(buffer, used, kind, time, &octets[..n]),
+        log_append::append(buffer, used, kind, time, &octets[..n]).map_err(u8::from),
     );
 }
 

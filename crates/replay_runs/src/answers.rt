@@ -14,6 +14,6 @@ pub(crate) fn print_found<P: Print>(to: &P, found: Result<Option<Report>, Refusa
     match found {
         Ok(Some(report)) => print_report(to, report),
         Ok(None) => print::letters(to, b"N"),
-        Err(refusal) => print::refusal(to, refusal),
+        Err(refusal) => print::refusal(to, u8::from(refusal)),
     }
 }

@@ -70,7 +70,11 @@ fn whole<P: Print>(to: &P, rule: CheckRule, run: &[u8], size: usize) {
         return;
     }
     let mut list = list_space();
-    print::count(to, b"F", run_reading::count_frames(rule, run));
+    print::count(
+        to,
+        b"F",
+        run_reading::count_frames(rule, run).map_err(u8::from),
+    );
     print::letters(to, b" ");
     fill(to, rule, run, &mut list, size);
     print::list(to, &list, size + BEHIND, 4);
@@ -83,6 +87,6 @@ fn fill<P: Print>(to: &P, rule: CheckRule, run: &[u8], list: &mut [u32], size: u
     print::count(
         to,
         b"F",
-        run_reading::read_frames(rule, run, &mut list[0..size]),
+        run_reading::read_frames(rule, run, &mut list[0..size]).map_err(u8::from),
     );
 }

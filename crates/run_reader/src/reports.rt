@@ -15,10 +15,11 @@ impl<'a> FrameReports<'a> {
     ghost use Rattle.run_search.specs.Reports.{reports};
     ghost use Rattle.run_reader.specs.Left.{reports_left};
 
-    // The reports of a whole run.
+    // The reports of a whole run: a reader at its start.
     #[tactic(auto, unfolding(run_search::specs::Reports::reports))]
     pub fn new(rule: CheckRule, run: &'a [u8]) -> FrameReports<'a>
-        ensures { reports_left result ≡ reports rule run.now }
+        ensures reader { (result.rule ≡ rule) × (result.run ≡ run.entry) × (result.place ≡ 0) }
+        ensures left { reports_left result ≡ reports rule run.now }
     {
         FrameReports {
             rule,
@@ -29,14 +30,14 @@ impl<'a> FrameReports<'a> {
 }
 
 // Each call gives the first of the reports that are left, and leaves the others; of a run of more than 65,535 octets there
-// are none.
+// are none. The place moves behind a report, and stays where none is left.
 impl<'a> Iterator for FrameReports<'a> {
     type Item = Report;
 
-    ghost use Rattle.std.specs.Iterator.{YieldsFirst, item_count};
-    ghost use Rattle.run_reader.specs.Left.{reports_left};
+    ghost use Rattle.std.specs.Iterator.{item_count};
+    ghost use Rattle.run_reader.specs.Left.{reports_left, GivesFirst};
 
-    ghost next_gives = { YieldsFirst reports_left };
+    ghost next_gives = { GivesFirst };
 
     ghost remaining = { item_count reports_left };
 

@@ -8,7 +8,7 @@ use Rattle.run_reader.proofs.reports.FrameReportsIterator.next.Goals as goal
 
 pub returns-in_default-2-clause-steps : goal.returns-in_default-2-clause-steps
 returns-in_default-2-clause-steps c =
-    let none = left_refused _ _ _ (sym c.find_frame.ensures.value ∙ c.in_default.is) in (none, none)
+    let none = left_refused _ _ _ (sym c.find_frame.ensures.value ∙ c.in_default.is) in ((none, none), refl)
 
 pub overflow_add-self : goal.overflow_add-self
 overflow_add-self c =
