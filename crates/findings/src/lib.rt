@@ -76,9 +76,21 @@ impl Model for ValidationResult {
 
     ghost Value = { Outcome };
 
-    ghost view = { λ a. record { is_valid = a.is_valid; link_type = a.link_type; frame_size = a.frame_size; errors = a.errors; warnings = a.warnings } };
+    ghost view = { λ a. record {
+      is_valid = a.is_valid;
+      link_type = a.link_type;
+      frame_size = a.frame_size;
+      errors = a.errors;
+      warnings = a.warnings;
+    } };
 
-    ghost inverse = { λ v. record { is_valid = v.is_valid; link_type = v.link_type; frame_size = v.frame_size; errors = v.errors; warnings = v.warnings } };
+    ghost inverse = { λ v. record {
+      is_valid = v.is_valid;
+      link_type = v.link_type;
+      frame_size = v.frame_size;
+      errors = v.errors;
+      warnings = v.warnings;
+    } };
 }
 
 impl ValidationResult {
